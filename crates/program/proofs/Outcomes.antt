@@ -1,0 +1,38 @@
+-- What an accepted outcome says of its parts.
+use mathlib.Core.Path.{_≡_, refl, ap}
+use mathlib.Core.Bool.{Bool, true, false, cond}
+use mathlib.Core.List.{List, _∷_}
+use Prim.Native.Nat.{ℕ}
+use native.Mathlib.Omega.{arith}
+use Rattle.std.specs.declared.option.Option.{Option}
+use Rattle.std.specs.declared.option.Option.the-variants.{Some, None}
+use Rattle.std.specs.declared.result.Result.{Result}
+use Rattle.std.specs.declared.result.Result.the-variants.{Ok, Err}
+use Rattle.std.specs.Options.{okOr}
+use Rattle.program.specs.Reading.{cons-to, then-do}
+
+module _ {A E : Type 0} where
+  -- an outcome is not both
+  pub not-both : {Z : Type 0} (e : E) (a : A) → _≡_ {A = Result A E} (Err e) (Ok a) → Z
+  not-both e a h = let z : _≡_ {A = ℕ} 0 1 = cc in let y : ⊥ = omega arith in elim y [ ]
+
+  pub cons-ok : (r : Result A E) (rs : Result (List A) E) (xs : List A) → cons-to r rs ≡ Ok xs → (x : A) × (ys : List A) × (r ≡ Ok x) × (rs ≡ Ok ys) × (xs ≡ x ∷ ys)
+  cons-ok (Ok x) (Ok ys) xs h = (x, ys, refl, refl, cc)
+  cons-ok (Ok x) (Err e) xs h = let z : _≡_ {A = ℕ} 0 1 = cc in let y : ⊥ = omega arith in elim y [ ]
+  cons-ok (Err e) rs xs h = let z : _≡_ {A = ℕ} 0 1 = cc in let y : ⊥ = omega arith in elim y [ ]
+
+  pub then-ok : {B : Type 0} (r : Result A E) (f : A → Result B E) (b : B) → then-do r f ≡ Ok b → (a : A) × (r ≡ Ok a) × (f a ≡ Ok b)
+  then-ok (Ok a) f b h = (a, refl, h)
+  then-ok (Err e) f b h = let z : _≡_ {A = ℕ} 0 1 = cc in let y : ⊥ = omega arith in elim y [ ]
+
+  pub or-ok : (o : Option A) (e : E) (a : A) → okOr o e ≡ Ok a → o ≡ Some a
+  or-ok (Some x) e a h = cc
+  or-ok None e a h = let z : _≡_ {A = ℕ} 0 1 = cc in let y : ⊥ = omega arith in elim y [ ]
+
+  pub cond-ok : (t : Bool) (r : Result A E) (e : E) (a : A) → cond t r (Err e) ≡ Ok a → (t ≡ true) × (r ≡ Ok a)
+  cond-ok true r e a h = (refl, h)
+  cond-ok false r e a h = let z : _≡_ {A = ℕ} 0 1 = cc in let y : ⊥ = omega arith in elim y [ ]
+
+  pub cond-else : (t : Bool) (e : E) (a b : A) → cond t (Err e) (Ok a) ≡ Ok b → t ≡ false
+  cond-else true e a b h = let z : _≡_ {A = ℕ} 0 1 = cc in let y : ⊥ = omega arith in elim y [ ]
+  cond-else false e a b h = refl

@@ -1,0 +1,5 @@
+pub mod Program
+pub mod Reading
+pub mod Refusals
+pub mod Source
+pub mod Tables
