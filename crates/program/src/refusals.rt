@@ -21,7 +21,7 @@ pub enum Refusal {
 }
 
 // A buffer is shorter than a table's text, which has this length.
-#[derive(Clone, Copy, Debug, PartialEq, Eq)]
+#[derive(Clone, Copy)]
 pub struct Short {
     pub needed: usize,
 }
@@ -34,7 +34,7 @@ pub enum Part {
 }
 
 // A refusal as it is told: its number, its place and the part that found it.
-#[derive(Clone, Copy, Debug, PartialEq, Eq)]
+#[derive(Clone, Copy)]
 pub struct Notice {
     pub number: u8,
     pub place: u8,

@@ -31,7 +31,7 @@ pub struct Row {
 }
 
 // How many processes, variables, registers of each process and values a program has.
-#[derive(Clone, Copy, Debug, PartialEq, Eq)]
+#[derive(Clone, Copy)]
 pub struct Counts {
     pub processes: u8,
     pub variables: u8,
