@@ -18,41 +18,22 @@ use text::write_line;
 fn instruction_fields(instruction: Instruction) -> [u16; 4]
     ensures { λ r. ⌜ r ≡ instruction-fields instruction ⌝ }
 {
-    match instruction {
-        Instruction::Read { register, variable } => [
-            1,
-            u16::from(register),
-            u16::from(variable),
-            0,
-        ],
-        Instruction::Write { variable, register } => [
-            2,
-            u16::from(variable),
-            u16::from(register),
-            0,
-        ],
-        Instruction::Cas { variable, old, new } => [
-            3,
-            u16::from(variable),
-            u16::from(old),
-            u16::from(new),
-        ],
-        Instruction::Set { register, constant } => [4, u16::from(register), u16::from(constant), 0],
+    let (number, a, b, c) = match instruction {
+        Instruction::Read { register, variable } => (1, register, variable, 0),
+        Instruction::Write { variable, register } => (2, variable, register, 0),
+        Instruction::Cas { variable, old, new } => (3, variable, old, new),
+        Instruction::Set { register, constant } => (4, register, constant, 0),
         Instruction::Add {
             register,
             left,
             right,
-        } => [5, u16::from(register), u16::from(left), u16::from(right)],
-        Instruction::Jeq { left, right, label } => [
-            6,
-            u16::from(left),
-            u16::from(right),
-            u16::from(label),
-        ],
-        Instruction::Assume { left, right } => [7, u16::from(left), u16::from(right), 0],
-        Instruction::Fence => [8, 0, 0, 0],
-        Instruction::Term => [9, 0, 0, 0],
-    }
+        } => (5, register, left, right),
+        Instruction::Jeq { left, right, label } => (6, left, right, label),
+        Instruction::Assume { left, right } => (7, left, right, 0),
+        Instruction::Fence => (8, 0, 0, 0),
+        Instruction::Term => (9, 0, 0, 0),
+    };
+    [number, u16::from(a), u16::from(b), u16::from(c)]
 }
 
 fn row_numbers(row: Row) -> [u16; 6]

@@ -265,45 +265,46 @@ mod tests {
         [1, 9, 9, 0, 0, 0],
     ];
 
+    const ALL: [Instruction; 9] = [
+        Instruction::Read {
+            register: 1,
+            variable: 2,
+        },
+        Instruction::Write {
+            variable: 2,
+            register: 1,
+        },
+        Instruction::Cas {
+            variable: 1,
+            old: 2,
+            new: 3,
+        },
+        Instruction::Set {
+            register: 3,
+            constant: 0,
+        },
+        Instruction::Add {
+            register: 1,
+            left: 2,
+            right: 3,
+        },
+        Instruction::Jeq {
+            left: 1,
+            right: 2,
+            label: 9,
+        },
+        Instruction::Assume { left: 2, right: 3 },
+        Instruction::Fence,
+        Instruction::Term,
+    ];
+
     #[test]
     fn every_instruction(rt: LibcRuntime) -> Result<(), Fail> {
         let text = text_of(rt.alloc(), &NINE)?;
         let mut table = Table::empty(rt.alloc())?;
         check_eq(told(&mut table, text.as_slice()), (0, 0))?;
-        let all = [
-            Instruction::Read {
-                register: 1,
-                variable: 2,
-            },
-            Instruction::Write {
-                variable: 2,
-                register: 1,
-            },
-            Instruction::Cas {
-                variable: 1,
-                old: 2,
-                new: 3,
-            },
-            Instruction::Set {
-                register: 3,
-                constant: 0,
-            },
-            Instruction::Add {
-                register: 1,
-                left: 2,
-                right: 3,
-            },
-            Instruction::Jeq {
-                left: 1,
-                right: 2,
-                label: 9,
-            },
-            Instruction::Assume { left: 2, right: 3 },
-            Instruction::Fence,
-            Instruction::Term,
-        ];
         let mut label = 1u8;
-        for instruction in all {
+        for instruction in ALL {
             check_eq(table.instruction(1, label), Some(instruction))?;
             label = label.saturating_add(1);
         }
