@@ -1,7 +1,7 @@
 -- The rows of a table, cut into those of each process.
 use mathlib.Core.Path.{_≡_, refl, sym, subst₂}
-use mathlib.Core.Bool.{true, _&&_, _||_}
-use mathlib.Core.Logic.{_⊎_, inl, inr}
+use mathlib.Core.Bool.{true, _||_}
+use mathlib.Core.Logic.{inl, inr}
 use mathlib.Core.List.{List, [], _∷_, _++_}
 use Prim.Native.Nat.{ℕ, _+_, _≤_}
 use native.Mathlib.Omega.{arith}
@@ -16,6 +16,7 @@ use Rattle.program.specs.declared.rows.Instruction.{Instruction}
 use Rattle.program.specs.declared.rows.Instruction.the-variants.{Read, Write, Cas, Set, Add, Jeq, Assume, Fence, Term}
 use Rattle.program.specs.Program.{operands-fit, follows, is-term, rows-fit, ends-fit}
 use Rattle.program.specs.Source.{numbered, listed}
+use Rattle.program.proofs.Follows.{next}
 
 abbrev pub row : ℕ → ℕ → Instruction → Row
 row p l x = record { process = p; label = l; instruction = x }
@@ -33,10 +34,6 @@ term-only (Jeq a b l) e = cc
 term-only (Assume a b) e = cc
 term-only Fence e = cc
 term-only Term e = refl
-
--- which row may stand below process p and label l: the next label, or the next process
-follows-means : (c : Counts) (p l q m : ℕ) → follows c p l q m ≡ true → (q ≤ c .processes) × (m ≤ 32) × (((1 ≤ p) × (q ≡ p) × (m ≡ l + 1)) ⊎ ((q ≡ p + 1) × (m ≡ 1)))
-follows-means c p l q m e = (grind (arith, tells), grind (arith, tells), grind (arith, tells))
 
 -- what a process keeps whose jumps are judged by n labels
 pub record Fit (c : Counts) (n : ℕ) (xs : List Instruction) : Type 0 where
@@ -107,21 +104,6 @@ module _ (c : Counts) (L : ℕ → ℕ) where
         parts = h;
       }
 
-  -- what the row r below process p and label l keeps, and the rows below it
-  pub record Next (p l : ℕ) (r : Row) (rows : List Row) : Type 0 where
-    pub high : r .process ≤ c .processes
-    pub few : r .label ≤ 32
-    pub place : ((1 ≤ p) × (r .process ≡ p) × (r .label ≡ l + 1)) ⊎ ((r .process ≡ p + 1) × (r .label ≡ 1))
-    pub operands : operands-fit c (L (r .process)) (r .instruction) ≡ true
-    pub below : rows-fit c L (r .process) (r .label) rows ≡ true
-
-  pub next : (p l : ℕ) (r : Row) (rows : List Row) → rows-fit c L p l (r ∷ rows) ≡ true → Next p l r rows
-  next p l r rows fit =
-      let both = and-parts (follows c p l (r .process) (r .label)) (operands-fit c (L (r .process)) (r .instruction) && rows-fit c L (r .process) (r .label) rows) fit in
-      let fits = and-parts (operands-fit c (L (r .process)) (r .instruction)) (rows-fit c L (r .process) (r .label) rows) (both .1) in
-      let means = follows-means c p l (r .process) (r .label) (both .0) in
-      record { high = means .0; few = means .1; place = means .2; operands = fits .0; below = fits .1 }
-
   cut : (rows : List Row) (p l : ℕ) (x : Instruction) → 1 ≤ p → p ≤ c .processes → l ≤ 32 → rows-fit c L p l rows ≡ true → ends-fit (c .processes) (row p l x ∷ rows) ≡ true → Cut p l x rows
   cut [] p l x first last few fit ends =
       let end = and-parts (is-term x) (leb (c .processes) p) ends in
@@ -129,7 +111,7 @@ module _ (c : Counts) (L : ℕ → ℕ) where
       last-row p l x [] few (end .0) (record { processes = []; rows-are = refl; fitting = tt; all = omega arith })
   cut (r ∷ rows) p l x first last few fit ends =
       let y = r .instruction in
-      let n = next p l r rows fit in
+      let n = next c L p l r rows fit in
       let end = and-parts (eqb p (r .process) || is-term x) (ends-fit (c .processes) (r ∷ rows)) ends in
       let below = cut rows (r .process) (r .label) y (grind arith) (n .high) (n .few) (n .below) (end .1) in
       let Goal : ℕ → ℕ → Type 0 = λ a b. operands-fit c (L a) y ≡ true → Cut a b y rows → Cut p l x (row a b y ∷ rows) in
@@ -146,7 +128,7 @@ module _ (c : Counts) (L : ℕ → ℕ) where
   parts [] fit ends = absurd (grind arith)
   parts (r ∷ rows) fit ends =
       let y = r .instruction in
-      let n = next 0 0 r rows fit in
+      let n = next c L 0 0 r rows fit in
       let p : r .process ≡ 1 = grind arith in
       let l : r .label ≡ 1 = grind arith in
       let below = cut rows (r .process) (r .label) y (omega arith) (n .high) (n .few) (n .below) ends in

@@ -1,6 +1,6 @@
 -- What was read so far, before what is still to be read. A loop that reads one element a turn keeps
 -- `front read rest ≡ whole`, where rest is the definition at what is left.
-use mathlib.Core.Path.{_≡_, refl, sym, ap, _∙_}
+use mathlib.Core.Path.{_≡_, refl, sym, ap}
 use mathlib.Core.List.{List, [], _∷_, _++_, append-assoc, append-nil}
 use Rattle.std.specs.declared.result.Result.{Result}
 use Rattle.std.specs.declared.result.Result.the-variants.{Ok, Err}

@@ -1,19 +1,18 @@
 -- An instruction and its number and operands.
 use mathlib.Core.Path.{_≡_, refl, sym, ap, subst, _∙_}
-use mathlib.Core.Bool.{Bool, true, false, cond, _&&_}
+use mathlib.Core.Bool.{Bool, true, false, _&&_}
 use mathlib.Core.Logic.{inl, inr}
-use mathlib.Core.List.{List, [], _∷_}
+use mathlib.Core.List.{[], _∷_}
 use Prim.Native.Nat.{ℕ}
 use native.Mathlib.Omega.{arith}
 use lib.Dec.{eqb}
 use lib.ListN.{getD}
 use Rattle.std.proofs.shelf.Tests.{cases-eq, and-parts, and-from, eqb-true, ne-eqb}
-use Rattle.std.specs.declared.option.Option.{Option}
 use Rattle.std.specs.declared.option.Option.the-variants.{Some, None}
 use Rattle.program.specs.declared.rows.Counts.{Counts}
 use Rattle.program.specs.declared.rows.Instruction.{Instruction}
 use Rattle.program.specs.declared.rows.Instruction.the-variants.{Read, Write, Cas, Set, Add, Jeq, Assume, Fence, Term}
-use Rattle.program.specs.Program.{within, is-register, is-variable, is-constant, operands-fit, instruction-fields}
+use Rattle.program.specs.Program.{is-register, is-variable, is-constant, operands-fit, instruction-fields}
 use Rattle.program.specs.Reading.{if-fits, instruction-of}
 
 -- writing an instruction and reading it gives it back

@@ -1,26 +1,27 @@
 -- The rows below a header, judged one by one.
 use mathlib.Core.Path.{_≡_, refl, sym, ap, ap₂, _∙_}
-use mathlib.Core.Bool.{Bool, true, false, cond, _&&_, _||_}
+use mathlib.Core.Bool.{Bool, true, false, cond}
 use mathlib.Core.Logic.{inl, inr}
 use mathlib.Core.List.{List, [], _∷_, _++_}
 use Prim.Native.Nat.{ℕ, _+_, _<_, _≤_}
 use native.Mathlib.Omega.{arith}
-use lib.Dec.{eqb, leb}
-use lib.ListN.{length, getD, take, drop}
-use Rattle.std.proofs.shelf.Lists.{drop-more, drop-all}
+use lib.Dec.{eqb}
+use lib.ListN.{length, getD, drop}
+use Rattle.std.proofs.shelf.Lists.{drop-more}
 use Rattle.std.proofs.shelf.Sums.{sumBy-cons}
-use Rattle.std.proofs.shelf.Tests.{cases-bool, and-parts, leb-true}
+use Rattle.std.proofs.shelf.Tests.{cases-bool}
 use Rattle.std.specs.declared.option.Option.{Option}
 use Rattle.std.specs.declared.option.Option.the-variants.{Some, None}
 use Rattle.std.specs.declared.result.Result.{Result}
 use Rattle.std.specs.declared.result.Result.the-variants.{Ok, Err}
 use Rattle.program.specs.declared.refusals.Refusal.{Refusal}
-use Rattle.program.specs.declared.refusals.Refusal.the-variants.{Order, Operand}
+use Rattle.program.specs.declared.refusals.Refusal.the-variants.{Order}
 use Rattle.program.specs.declared.rows.Row.{Row}
 use Rattle.program.specs.declared.rows.Counts.{Counts}
 use Rattle.program.specs.declared.rows.Instruction.{Instruction}
 use Rattle.program.specs.Program.{follows, labels-of}
 use Rattle.program.specs.Reading.{cons-to, instruction-of, row-with, row-read, rows-read, named}
+use Rattle.program.proofs.Follows.{follows-means}
 use Rattle.program.proofs.Fronts.{front, front-push}
 use Rattle.program.proofs.Outcomes.{cons-ok}
 
@@ -34,13 +35,6 @@ placed-by true i p l o r e = with-place i p l o r e
 placed-by false i p l o r e = let z : _≡_ {A = ℕ} 0 1 = cc in let y : ⊥ = omega arith in elim y [ ]
 
 module _ (c : Counts) where
-  -- a row that may stand there is of a process that the table has
-  pub follows-low : (p l q m : ℕ) → follows c p l q m ≡ true → (q ≤ c .processes) × (m ≤ 32)
-  follows-low p l q m e =
-      let both = and-parts ((leb 1 p && (eqb q p && eqb m (l + 1))) || (eqb q (p + 1) && eqb m 1)) (leb q (c .processes) && leb m 32) e .1 in
-      let low = and-parts (leb q (c .processes)) (leb m 32) both in
-      (leb-true q (c .processes) (low .0), leb-true m 32 (low .1))
-
   module _ (L : ℕ → ℕ) where
     pub row-place : (p l i : ℕ) (f : List ℕ) (r : Row) → row-read c L p l i f ≡ Ok r → (r .process ≡ getD f 0 0) × (r .label ≡ getD f 1 0)
     row-place p l i f r e = placed-by (follows c p l (getD f 0 0) (getD f 1 0)) i (getD f 0 0) (getD f 1 0) _ r e
@@ -49,18 +43,17 @@ module _ (c : Counts) where
       rows-at : front xs (rows-read c L p l i (drop k fs)) ≡ front xs (cons-to (row-read c L p l i (getD fs k d)) (rows-read c L (getD (getD fs k d) 0 0) (getD (getD fs k d) 1 0) (i + 1) (drop (k + 1) fs)))
       rows-at = ap (λ (z : List (List ℕ)). front xs (rows-read c L p l i z)) (drop-more fs k d h)
 
-      pub rows-more : (r : Row) → row-read c L p l i (getD fs k d) ≡ Ok r → front xs (rows-read c L p l i (drop k fs)) ≡ front (xs ++ (r ∷ [])) (rows-read c L (r .process) (r .label) (i + 1) (drop (k + 1) fs))
+      pub rows-more : (r : Row) → Ok r ≡ row-read c L p l i (getD fs k d) → front xs (rows-read c L p l i (drop k fs)) ≡ front (xs ++ (r ∷ [])) (rows-read c L (r .process) (r .label) (i + 1) (drop (k + 1) fs))
       rows-more r e =
-          let at = row-place p l i (getD fs k d) r e in
+          let at = row-place p l i (getD fs k d) r (sym e) in
           rows-at
-          ∙ ap (λ (z : Result Row Refusal). front xs (cons-to z (rows-read c L (getD (getD fs k d) 0 0) (getD (getD fs k d) 1 0) (i + 1) (drop (k + 1) fs)))) e
+          ∙ ap (λ (z : Result Row Refusal). front xs (cons-to z (rows-read c L (getD (getD fs k d) 0 0) (getD (getD fs k d) 1 0) (i + 1) (drop (k + 1) fs)))) (sym e)
           ∙ front-push xs r _
           ∙ ap (λ (q : ℕ). front (xs ++ (r ∷ [])) (rows-read c L q (getD (getD fs k d) 1 0) (i + 1) (drop (k + 1) fs))) (sym (at .0))
           ∙ ap (λ (m : ℕ). front (xs ++ (r ∷ [])) (rows-read c L (r .process) m (i + 1) (drop (k + 1) fs))) (sym (at .1))
 
-      pub rows-stop : (e : Refusal) → row-read c L p l i (getD fs k d) ≡ Err e → front xs (rows-read c L p l i (drop k fs)) ≡ Err e
-      rows-stop e s =
-          rows-at ∙ ap (λ (z : Result Row Refusal). front xs (cons-to z (rows-read c L (getD (getD fs k d) 0 0) (getD (getD fs k d) 1 0) (i + 1) (drop (k + 1) fs)))) s
+      pub rows-stop : (e : Refusal) → Err e ≡ row-read c L p l i (getD fs k d) → Err e ≡ front xs (rows-read c L p l i (drop k fs))
+      rows-stop e s = sym (rows-at ∙ ap (λ (z : Result Row Refusal). front xs (cons-to z (rows-read c L (getD (getD fs k d) 0 0) (getD (getD fs k d) 1 0) (i + 1) (drop (k + 1) fs)))) (sym s))
 
     -- as many rows as lines name a process
     pub named-rows : (p l i : ℕ) (fs : List (List ℕ)) (rows : List Row) → rows-read c L p l i fs ≡ Ok rows → (q : ℕ) → named fs q ≡ labels-of rows q
@@ -79,7 +72,7 @@ module _ (c : Counts) where
         let at = λ (N : ℕ → ℕ). row-with i (getD f 0 0) (getD f 1 0) (instruction-of c (N (getD f 0 0)) (getD f 2 0) (getD f 3 0) (getD f 4 0) (getD f 5 0)) in
         elim (cases-bool (follows c p l (getD f 0 0) (getD f 1 0))) [
           | inl e ↦
-              let low = follows-low p l (getD f 0 0) (getD f 1 0) e .0 in
+              let low = follows-means c p l (getD f 0 0) (getD f 1 0) e .0 in
               ap (λ (n : ℕ). cond (follows c p l (getD f 0 0) (getD f 1 0)) (row-with i (getD f 0 0) (getD f 1 0) (instruction-of c n (getD f 2 0) (getD f 3 0) (getD f 4 0) (getD f 5 0))) (Err (Order i))) (same (getD f 0 0) low)
           | inr e ↦
               ap (λ (b : Bool). cond b (at L) (Err (Order i))) e ∙ sym (ap (λ (b : Bool). cond b (at M) (Err (Order i))) e)

@@ -1,4 +1,5 @@
 pub mod Fronts
+pub mod Follows
 pub mod Tallies
 pub mod Ends
 pub mod Judged
@@ -17,3 +18,5 @@ pub mod Lookup
 pub mod Starts
 pub mod Pages
 pub mod Words
+pub mod Faulted
+pub mod FaultedRows

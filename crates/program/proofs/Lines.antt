@@ -1,10 +1,9 @@
 -- The lines of a text and their numbers.
 use mathlib.Core.Path.{_≡_, refl, sym, ap, ap₂, subst, _∙_}
-use mathlib.Core.Bool.{Bool, true, false, cond}
 use mathlib.Core.List.{List, [], _∷_, _++_}
-use Prim.Native.Nat.{ℕ, zero, suc, _+_, _-_, _*_, _<_, _≤_}
+use Prim.Native.Nat.{ℕ, zero, suc, _+_, _-_, _*_, _<_}
 use native.Mathlib.Omega.{arith}
-use lib.ListN.{length, getD, take, drop}
+use lib.ListN.{length, take, drop}
 use Rattle.std.proofs.shelf.Lists.{length-append, length-drop, take-append-drop, take-at, drop-at, drop-drop, nil-from-length}
 use Rattle.std.specs.declared.option.Option.{Option}
 use Rattle.std.specs.declared.option.Option.the-variants.{Some, None}
@@ -12,18 +11,14 @@ use Rattle.std.specs.declared.result.Result.{Result}
 use Rattle.std.specs.declared.result.Result.the-variants.{Ok, Err}
 use Rattle.std.specs.Options.{okOr}
 use Rattle.std.specs.shelf.Lists.{All}
-use Rattle.text.specs.Lines.{line-text, line-numbers, Small, Reads}
+use Rattle.text.specs.Lines.{line-text, line-numbers, Reads}
 use Rattle.text.proofs.Lines.{length-line, numbers-read, line-read-back}
 use Rattle.program.specs.declared.refusals.Refusal.{Refusal}
 use Rattle.program.specs.declared.refusals.Refusal.the-variants.{Field}
-use Rattle.program.specs.Program.{lines-text}
+use Rattle.program.specs.Program.{lines-text, Six}
 use Rattle.program.specs.Reading.{cons-to, lines, numbers}
 use Rattle.program.proofs.Fronts.{front, front-push}
 use Rattle.program.proofs.Outcomes.{cons-ok, or-ok}
-
--- six numbers that fit their fields
-abbrev pub Six : List ℕ → Type 0
-Six f = (length f ≡ 6) × Small f
 
 -- one line, and the lines after it
 lines-at : (n i : ℕ) (text : List ℕ) → i < n → lines (n - i) (drop (25 * i) text) ≡ take 25 (drop (25 * i) text) ∷ lines (n - (i + 1)) (drop (25 * (i + 1)) text)
@@ -48,7 +43,7 @@ module _ (n i : ℕ) (text : List ℕ) (h : i < n) (xs : List (List ℕ)) where
       at-line ∙ ap (λ (o : Option (List ℕ)). front xs (cons-to (okOr o (Field (i + 1))) (numbers ((i + 1) + 1) (lines (n - (i + 1)) (drop (25 * (i + 1)) text))))) e
 
 -- the numbers read are those whose lines the text is
-line-is : (b f : List ℕ) → line-numbers 6 b ≡ Some f → Six f × (b ≡ line-text f)
+pub line-is : (b f : List ℕ) → line-numbers 6 b ≡ Some f → Six f × (b ≡ line-text f)
 line-is b f e = let r = subst (Reads 6 b) e (numbers-read 6 b) in ((r .0, r .1), r .2)
 
 pub numbers-are : (n i : ℕ) (text : List ℕ) (fs : List (List ℕ)) → length text ≡ 25 * n → numbers i (lines n text) ≡ Ok fs → All Six fs × (text ≡ lines-text fs) × (length fs ≡ n)

@@ -18,7 +18,7 @@ use Rattle.program.specs.declared.rows.Instruction.{Instruction}
 use Rattle.program.specs.Program.{Program, operands-fit, is-term, rows-fit, ends-fit, labels-of, rows-below, instruction-at, proper}
 use Rattle.program.specs.Source.{numbered, listed}
 use Rattle.program.proofs.Tallied.{length-numbered, labels-own, labels-later, labels-rest, below-later, labels-lower, below-own}
-use Rattle.program.proofs.Cuts.{next}
+use Rattle.program.proofs.Follows.{next}
 use Rattle.program.proofs.Blocks.{tested, blocks}
 
 pub below-next : (rows : List Row) (q : ℕ) → rows-below rows (q + 1) ≡ rows-below rows q + labels-of rows q

@@ -1,6 +1,7 @@
 -- What an accepted outcome says of its parts.
-use mathlib.Core.Path.{_≡_, refl, ap}
+use mathlib.Core.Path.{_≡_, refl}
 use mathlib.Core.Bool.{Bool, true, false, cond}
+use mathlib.Core.Logic.{_⊎_, inl, inr}
 use mathlib.Core.List.{List, _∷_}
 use Prim.Native.Nat.{ℕ}
 use native.Mathlib.Omega.{arith}
@@ -36,3 +37,28 @@ module _ {A E : Type 0} where
   pub cond-else : (t : Bool) (e : E) (a b : A) → cond t (Err e) (Ok a) ≡ Ok b → t ≡ false
   cond-else true e a b h = let z : _≡_ {A = ℕ} 0 1 = cc in let y : ⊥ = omega arith in elim y [ ]
   cond-else false e a b h = refl
+
+  -- what a refused outcome says of its parts
+  pub cons-err : (r : Result A E) (rs : Result (List A) E) (e : E) → cons-to r rs ≡ Err e → (r ≡ Err e) ⊎ ((x : A) × (r ≡ Ok x) × (rs ≡ Err e))
+  cons-err (Ok x) (Ok ys) e h = let z : _≡_ {A = ℕ} 0 1 = cc in let y : ⊥ = omega arith in elim y [ ]
+  cons-err (Ok x) (Err f) e h = inr (x, refl, cc)
+  cons-err (Err f) rs e h = inl (cc)
+
+  pub then-err : {B : Type 0} (r : Result A E) (f : A → Result B E) (e : E) → then-do r f ≡ Err e → (r ≡ Err e) ⊎ ((a : A) × (r ≡ Ok a) × (f a ≡ Err e))
+  then-err (Ok a) f e h = inr (a, refl, h)
+  then-err (Err d) f e h = inl (cc)
+
+  pub or-err : (o : Option A) (d e : E) → okOr o d ≡ Err e → (o ≡ None) × (d ≡ e)
+  or-err (Some x) d e h = let z : _≡_ {A = ℕ} 0 1 = cc in let y : ⊥ = omega arith in elim y [ ]
+  or-err None d e h = (refl, cc)
+
+  pub cond-err : (t : Bool) (r : Result A E) (d e : E) → cond t r (Err d) ≡ Err e → ((t ≡ false) × (d ≡ e)) ⊎ ((t ≡ true) × (r ≡ Err e))
+  cond-err true r d e h = inr (refl, h)
+  cond-err false r d e h = inl (refl, cc)
+
+  pub ok-not-err : {Z : Type 0} (a : A) (e : E) → _≡_ {A = Result A E} (Ok a) (Err e) → Z
+  ok-not-err a e h = let z : _≡_ {A = ℕ} 0 1 = cc in let y : ⊥ = omega arith in elim y [ ]
+
+  pub cond-then : (t : Bool) (d e : E) (a : A) → cond t (Err d) (Ok a) ≡ Err e → (t ≡ true) × (d ≡ e)
+  cond-then true d e a h = (refl, cc)
+  cond-then false d e a h = ok-not-err a e h

@@ -1,16 +1,16 @@
 -- Writing a table's lines one after another into a buffer.
-use mathlib.Core.Path.{_≡_, refl, sym, ap, ap₂, subst, _∙_}
-use mathlib.Core.Bool.{Bool, true, false, cond, _&&_}
-use mathlib.Core.Logic.{_⊎_, inl, inr}
-use mathlib.Core.List.{List, [], _∷_, _++_, map, append-assoc, append-nil}
+use mathlib.Core.Path.{_≡_, sym, ap, ap₂, subst, _∙_}
+use mathlib.Core.Bool.{Bool, true, false, cond}
+use mathlib.Core.Logic.{inl, inr}
+use mathlib.Core.List.{List, [], _∷_, _++_, append-assoc, append-nil}
 use Prim.Native.Nat.{ℕ, zero, suc, _+_, _-_, _*_, _<_, _≤_}
 use native.Mathlib.Omega.{arith}
 use borrow.Rule.Slice.PartMut.{putMid}
-use lib.Dec.{eqb, leb}
+use lib.Dec.{leb}
 use lib.ListN.{length, getD, take, drop}
 use Rattle.std.proofs.shelf.Elements.{all-take}
 use Rattle.std.proofs.shelf.Lists.{length-take-le, length-drop, length-map, getD-map, take-at, drop-at, drop-drop, drop-all, take-more, take-all, take-rest}
-use Rattle.std.proofs.shelf.Tests.{cases-bool, le-leb, lt-leb, eqb-true, ne-eqb}
+use Rattle.std.proofs.shelf.Tests.{cases-bool, le-leb, lt-leb}
 use Rattle.std.specs.declared.result.Result.{Result}
 use Rattle.std.specs.declared.result.Result.the-variants.{Ok, Err}
 use Rattle.std.specs.shelf.Lists.{All}
@@ -21,10 +21,10 @@ use Rattle.text.specs.Writing.{over, written}
 use Rattle.text.proofs.Lines.{length-line}
 use Rattle.program.specs.declared.refusals.Short.{Short}
 use Rattle.program.specs.declared.rows.Row.{Row}
-use Rattle.program.specs.Program.{Program, row-fields, table-fields, lines-text, is-nothing, kept, proper}
+use Rattle.program.specs.Program.{Program, row-fields, table-fields, lines-text, is-nothing, kept, Six}
 use Rattle.program.specs.Reading.{read}
 use Rattle.program.specs.Tables.{lines-of, text-of, table-written}
-use Rattle.program.proofs.Lines.{Six, length-lines}
+use Rattle.program.proofs.Lines.{length-lines}
 use Rattle.program.proofs.Starts.{kept-proper}
 use Rattle.program.proofs.Texts.{fields-six, read-back}
 

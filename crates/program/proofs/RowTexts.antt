@@ -1,9 +1,8 @@
 -- Rows that are read are those whose numbers the lines have, and they fit; rows that fit are read back.
 use mathlib.Core.Path.{_≡_, refl, sym, ap, ap₂, subst, _∙_}
-use mathlib.Core.Bool.{Bool, true, false, cond, _&&_, _||_}
-use mathlib.Core.Logic.{inl, inr}
-use mathlib.Core.List.{List, [], _∷_, _++_, map}
-use Prim.Native.Nat.{ℕ, _+_, _<_, _≤_}
+use mathlib.Core.Bool.{Bool, true, cond, _&&_, _||_}
+use mathlib.Core.List.{List, [], _∷_, map}
+use Prim.Native.Nat.{ℕ, _+_, _≤_}
 use native.Mathlib.Omega.{arith}
 use lib.Dec.{eqb, leb, ltb}
 use lib.ListN.{length, getD}
@@ -14,14 +13,14 @@ use Rattle.std.specs.declared.result.Result.{Result}
 use Rattle.std.specs.declared.result.Result.the-variants.{Ok, Err}
 use Rattle.std.specs.shelf.Lists.{All}
 use Rattle.program.specs.declared.refusals.Refusal.{Refusal}
-use Rattle.program.specs.declared.refusals.Refusal.the-variants.{Order, Operand, NoTerm, NoProcess}
+use Rattle.program.specs.declared.refusals.Refusal.the-variants.{Order, NoTerm, NoProcess}
 use Rattle.program.specs.declared.rows.Row.{Row}
 use Rattle.program.specs.declared.rows.Counts.{Counts}
 use Rattle.program.specs.declared.rows.Instruction.{Instruction}
-use Rattle.program.specs.Program.{row-fields, instruction-fields, operands-fit, follows, labels-of, rows-fit, ends-fit, is-term}
-use Rattle.program.specs.Reading.{cons-to, instruction-of, row-with, row-read, rows-read, ends-read, named}
+use Rattle.program.specs.Program.{row-fields, instruction-fields, operands-fit, follows, rows-fit, ends-fit, is-term, Six}
+use Rattle.program.specs.Reading.{cons-to, instruction-of, row-with, row-read, rows-read, ends-read}
+use Rattle.program.proofs.Follows.{next}
 use Rattle.program.proofs.Instructions.{instruction-back, instruction-is}
-use Rattle.program.proofs.Lines.{Six}
 use Rattle.program.proofs.Outcomes.{cons-ok, cond-ok, cond-else}
 
 -- six numbers, one by one
@@ -41,10 +40,10 @@ with-is i p l None r e = let z : _≡_ {A = ℕ} 0 1 = cc in let y : ⊥ = omega
 
 module _ (c : Counts) (L : ℕ → ℕ) where
   -- what a row that was read keeps
-  abbrev Fits : ℕ → ℕ → List ℕ → Row → Type 0
+  abbrev pub Fits : ℕ → ℕ → List ℕ → Row → Type 0
   Fits p l f r = (follows c p l (r .process) (r .label) ≡ true) × (operands-fit c (L (r .process)) (r .instruction) ≡ true) × (f ≡ row-fields r)
 
-  row-is : (p l i : ℕ) (f : List ℕ) (r : Row) → length f ≡ 6 → row-read c L p l i f ≡ Ok r → Fits p l f r
+  pub row-is : (p l i : ℕ) (f : List ℕ) (r : Row) → length f ≡ 6 → row-read c L p l i f ≡ Ok r → Fits p l f r
   row-is p l i f r six e =
       let t = cond-ok (follows c p l (getD f 0 0) (getD f 1 0)) _ (Order i) r e in
       let w = with-is i (getD f 0 0) (getD f 1 0) _ r (t .1) in
@@ -70,13 +69,12 @@ module _ (c : Counts) (L : ℕ → ℕ) where
   pub rows-back : (p l i : ℕ) (rows : List Row) → rows-fit c L p l rows ≡ true → rows-read c L p l i (map row-fields rows) ≡ Ok rows
   rows-back p l i [] e = refl
   rows-back p l i (r ∷ rows) e =
-      let t = and-parts (follows c p l (r .process) (r .label)) (operands-fit c (L (r .process)) (r .instruction) && rows-fit c L (r .process) (r .label) rows) e in
-      let u = and-parts (operands-fit c (L (r .process)) (r .instruction)) (rows-fit c L (r .process) (r .label) rows) (t .1) in
+      let n = next c L p l r rows e in
       let f = row-fields r in
       let one : row-read c L p l i f ≡ Ok r =
-      ap (λ (b : Bool). cond b (row-with i (r .process) (r .label) (instruction-of c (L (r .process)) (getD f 2 0) (getD f 3 0) (getD f 4 0) (getD f 5 0))) (Err (Order i))) (t .0)
-      ∙ ap (λ (o : Option Instruction). row-with i (r .process) (r .label) o) (instruction-back c (L (r .process)) (r .instruction) (u .0)) in
-      ap₂ (λ (a : Result Row Refusal) (b : Result (List Row) Refusal). cons-to a b) one (rows-back (r .process) (r .label) (i + 1) rows (u .1))
+      ap (λ (b : Bool). cond b (row-with i (r .process) (r .label) (instruction-of c (L (r .process)) (getD f 2 0) (getD f 3 0) (getD f 4 0) (getD f 5 0))) (Err (Order i))) (n .follow)
+      ∙ ap (λ (o : Option Instruction). row-with i (r .process) (r .label) o) (instruction-back c (L (r .process)) (r .instruction) (n .operands)) in
+      ap₂ (λ (a : Result Row Refusal) (b : Result (List Row) Refusal). cons-to a b) one (rows-back (r .process) (r .label) (i + 1) rows (n .below))
 
 -- the ends of the processes
 pub ends-are : (P i : ℕ) (rows : List Row) → 1 ≤ length rows → ends-read P i rows ≡ Ok tt → ends-fit P rows ≡ true

@@ -1,10 +1,10 @@
 -- The numbers of a proper table fit their fields.
-use mathlib.Core.Path.{_≡_, refl, sym, ap, _∙_}
-use mathlib.Core.Bool.{Bool, true, _&&_}
+use mathlib.Core.Path.{_≡_, refl, ap}
+use mathlib.Core.Bool.{true, _&&_}
 use mathlib.Core.List.{List, [], _∷_, map}
 use Prim.Native.Nat.{ℕ, suc, _≤_}
 use native.Mathlib.Omega.{arith}
-use lib.Dec.{leb, ltb}
+use lib.Dec.{leb}
 use lib.ListN.{length}
 use Rattle.std.proofs.shelf.Tests.{and-parts, leb-true, ltb-true}
 use Rattle.std.specs.shelf.Lists.{All}
@@ -13,9 +13,8 @@ use Rattle.program.specs.declared.rows.Row.{Row}
 use Rattle.program.specs.declared.rows.Counts.{Counts}
 use Rattle.program.specs.declared.rows.Instruction.{Instruction}
 use Rattle.program.specs.declared.rows.Instruction.the-variants.{Read, Write, Cas, Set, Add, Jeq, Assume, Fence, Term}
-use Rattle.program.specs.Program.{within, counts-fit, is-register, is-variable, is-constant, operands-fit, instruction-fields, row-fields, header-fields, follows, rows-fit}
-use Rattle.program.proofs.Judged.{follows-low}
-use Rattle.program.proofs.Lines.{Six}
+use Rattle.program.specs.Program.{within, counts-fit, is-register, is-variable, is-constant, operands-fit, instruction-fields, row-fields, header-fields, rows-fit, Six}
+use Rattle.program.proofs.Follows.{next}
 
 pub within-high : (low high n : ℕ) → within low high n ≡ true → n ≤ high
 within-high low high n e = leb-true n high (and-parts (leb low n) (leb n high) e .1)
@@ -70,10 +69,8 @@ module _ (c : Counts) (fit : counts-fit c ≡ true) where
   pub rows-small : (L : ℕ → ℕ) → ((q : ℕ) → L q ≤ 128) → (p l : ℕ) (rows : List Row) → rows-fit c L p l rows ≡ true → All Six (map row-fields rows)
   rows-small L few p l [] e = tt
   rows-small L few p l (r ∷ rows) e =
-      let t = and-parts (follows c p l (r .process) (r .label)) (operands-fit c (L (r .process)) (r .instruction) && rows-fit c L (r .process) (r .label) rows) e in
-      let u = and-parts (operands-fit c (L (r .process)) (r .instruction)) (rows-fit c L (r .process) (r .label) rows) (t .1) in
-      let low = follows-low c p l (r .process) (r .label) (t .0) in
-      ((ap (λ (n : ℕ). suc (suc n)) (four-long (r .instruction)), (omega (arith, limits .0), (omega arith, instruction-small (L (r .process)) (few (r .process)) (r .instruction) (u .0)))), rows-small L few (r .process) (r .label) rows (u .1))
+      let n = next c L p l r rows e in
+      ((ap (λ (k : ℕ). suc (suc k)) (four-long (r .instruction)), (omega (arith, limits .0, n .high), (omega (arith, n .few), instruction-small (L (r .process)) (few (r .process)) (r .instruction) (n .operands)))), rows-small L few (r .process) (r .label) rows (n .below))
 
   pub header-small : (n : ℕ) → n ≤ 128 → Six (header-fields c n)
   header-small n h = (refl, (omega (arith, limits .0), (omega (arith, limits .1), (omega (arith, limits .2), (omega (arith, limits .3), (omega arith, (omega arith, tt)))))))

@@ -1,5 +1,5 @@
 -- Where the rows of each process begin.
-use mathlib.Core.Path.{_≡_, refl, sym, ap, ap₂, subst, _∙_}
+use mathlib.Core.Path.{_≡_, refl, sym, ap, ap₂, _∙_}
 use mathlib.Core.Bool.{Bool, true, false, cond, _&&_}
 use mathlib.Core.Logic.{_⊎_, inl, inr}
 use mathlib.Core.List.{List, [], _∷_}
@@ -15,9 +15,9 @@ use Rattle.std.specs.declared.option.Option.the-variants.{Some, None}
 use Rattle.program.specs.declared.rows.Row.{Row}
 use Rattle.program.specs.declared.rows.Counts.{Counts}
 use Rattle.program.specs.declared.rows.Instruction.{Instruction}
-use Rattle.program.specs.Program.{Program, operands-fit, follows, labels-of, rows-below, rows-fit, ends-fit, counts-fit, proper, kept, counts-none, is-nothing, Counted, places, sums, instruction-at}
+use Rattle.program.specs.Program.{Program, labels-of, rows-below, rows-fit, proper, kept, counts-none, is-nothing, Counted, places, sums, instruction-at}
 use Rattle.program.specs.Tables.{Fits-at}
-use Rattle.program.proofs.Judged.{follows-low}
+use Rattle.program.proofs.Follows.{next}
 use Rattle.program.proofs.Blocks.{tested}
 use Rattle.program.proofs.Lookup.{below-next, below-few, found-at, not-found, found-fits}
 use Rattle.program.proofs.Smalls.{limits}
@@ -80,11 +80,9 @@ module _ (c : Counts) (L : ℕ → ℕ) (q : ℕ) (high : c .processes < q) wher
   none-past : (p l : ℕ) (rows : List Row) → rows-fit c L p l rows ≡ true → labels-of rows q ≡ 0
   none-past p l [] e = refl
   none-past p l (r ∷ rows) e =
-      let t = and-parts (follows c p l (r .process) (r .label)) (operands-fit c (L (r .process)) (r .instruction) && rows-fit c L (r .process) (r .label) rows) e in
-      let u = and-parts (operands-fit c (L (r .process)) (r .instruction)) (rows-fit c L (r .process) (r .label) rows) (t .1) in
-      let low = follows-low c p l (r .process) (r .label) (t .0) .0 in
+      let n = next c L p l r rows e in
       sumBy-cons (λ (s : Row). cond (eqb (s .process) q) 1 0) r rows
-      ∙ ap₂ (λ (b : Bool) (n : ℕ). cond b 1 0 + n) (ne-eqb (r .process) q (λ (s : r .process ≡ q). omega arith)) (none-past (r .process) (r .label) rows (u .1))
+      ∙ ap₂ (λ (b : Bool) (n : ℕ). cond b 1 0 + n) (ne-eqb (r .process) q (λ (s : r .process ≡ q). omega (arith, n .high))) (none-past (r .process) (r .label) rows (n .below))
 
 -- what every table keeps, by whether anything was read
 kept-cases : (p : Program) → kept p ≡ true → (p .rows ≡ []) ⊎ (proper p ≡ true)

@@ -1,10 +1,10 @@
 -- A text that is read is the table's, which is proper; a proper table's text is read as that table.
 use mathlib.Core.Path.{_≡_, refl, sym, ap, ap₂, subst, _∙_, fun-ext}
-use mathlib.Core.Bool.{Bool, true, false, cond, _&&_}
-use mathlib.Core.List.{List, [], _∷_, _++_, map}
-use Prim.Native.Nat.{ℕ, _+_, _*_, _/_, _%_, _<_, _≤_}
+use mathlib.Core.Bool.{Bool, true, cond, _&&_}
+use mathlib.Core.List.{List, [], _∷_, map}
+use Prim.Native.Nat.{ℕ, _*_, _/_, _%_, _≤_}
 use native.Mathlib.Omega.{arith}
-use lib.Dec.{eqb, leb, ltb}
+use lib.Dec.{eqb, leb}
 use lib.ListN.{length, getD}
 use Rattle.std.proofs.shelf.Lists.{length-map}
 use Rattle.std.proofs.shelf.Sums.{countBy-le-length}
@@ -16,17 +16,18 @@ use Rattle.program.specs.declared.refusals.Refusal.{Refusal}
 use Rattle.program.specs.declared.refusals.Refusal.the-variants.{Length, Header}
 use Rattle.program.specs.declared.rows.Row.{Row}
 use Rattle.program.specs.declared.rows.Counts.{Counts}
-use Rattle.program.specs.Program.{Program, header-fields, row-fields, table-fields, table-text, lines-text, within, counts-fit, labels-of, rows-fit, ends-fit, proper}
+use Rattle.program.specs.Faults.{Lines}
+use Rattle.program.specs.Program.{Program, header-fields, row-fields, table-fields, table-text, lines-text, within, counts-fit, labels-of, rows-fit, ends-fit, proper, Six}
 use Rattle.program.specs.Reading.{then-do, line-count, lines, numbers, lines-read, counts-of, header-fits, header-read, named, rows-read, ends-read, body-read, table-read, read}
 use Rattle.program.proofs.Blocks.{tested}
 use Rattle.program.proofs.Judged.{named-rows}
-use Rattle.program.proofs.Lines.{Six, numbers-are, numbers-back, length-lines}
+use Rattle.program.proofs.Lines.{numbers-are, numbers-back, length-lines}
 use Rattle.program.proofs.Outcomes.{then-ok, cond-ok}
 use Rattle.program.proofs.Smalls.{rows-small, header-small}
 use Rattle.program.proofs.RowTexts.{six-are, rows-are, rows-back, ends-are, ends-back}
 
 -- the header
-header-is : (h : List ℕ) (n : ℕ) (c : Counts) → length h ≡ 6 → header-read h n ≡ Ok c → (counts-fit c ≡ true) × (1 ≤ n) × (n ≤ 128) × (h ≡ header-fields c n)
+pub header-is : (h : List ℕ) (n : ℕ) (c : Counts) → length h ≡ 6 → header-read h n ≡ Ok c → (counts-fit c ≡ true) × (1 ≤ n) × (n ≤ 128) × (h ≡ header-fields c n)
 header-is h n c six e =
     let t = cond-ok (header-fits h n) (Ok (counts-of h)) Header c e in
     let same : counts-of h ≡ c = let k = t .1 in cc in
@@ -45,13 +46,14 @@ header-is h n c six e =
     let whole : h ≡ header-fields (counts-of h) n = six-are h six ∙ ap₂ (λ (x y : ℕ). getD h 0 0 ∷ (getD h 1 0 ∷ (getD h 2 0 ∷ (getD h 3 0 ∷ (x ∷ (y ∷ [])))))) en ez in
     subst (λ (z : Counts). (counts-fit z ≡ true) × (1 ≤ n) × (n ≤ 128) × (h ≡ header-fields z n)) same (fit, low, high, whole)
 
-line-count-is : (text : List ℕ) (n : ℕ) → line-count text ≡ Ok n → length text ≡ 25 * n
+pub line-count-is : (text : List ℕ) (n : ℕ) → line-count text ≡ Ok n → Lines text n
 line-count-is text n e =
     let t = cond-ok (eqb (length text % 25) 0 && within 2 129 (length text / 25)) (Ok (length text / 25)) Length n e in
     let u = and-parts (eqb (length text % 25) 0) (within 2 129 (length text / 25)) (t .0) in
+    let v = and-parts (leb 2 (length text / 25)) (leb (length text / 25) 129) (u .1) in
     let whole = eqb-true (length text % 25) 0 (u .0) in
     let same : length text / 25 ≡ n = let k = t .1 in cc in
-    omega arith
+    (omega arith, omega (arith, leb-true 2 (length text / 25) (v .0)), omega (arith, leb-true (length text / 25) 129 (v .1)))
 
 -- the numbers of all lines
 table-is : (fs : List (List ℕ)) (p : Program) → All Six fs → table-read fs ≡ Ok p → (proper p ≡ true) × (fs ≡ table-fields p)
@@ -79,12 +81,12 @@ pub read-is : (text : List ℕ) (p : Program) → read text ≡ Ok p → (proper
 read-is text p e =
     let a = then-ok (lines-read text) table-read p e in
     let b = then-ok (line-count text) (λ n. numbers 1 (lines n text)) (a .0) (a .1) in
-    let c = numbers-are (b .0) 1 text (a .0) (line-count-is text (b .0) (b .1)) (b .2) in
+    let c = numbers-are (b .0) 1 text (a .0) (line-count-is text (b .0) (b .1) .0) (b .2) in
     let d = table-is (a .0) p (c .0) (a .2) in
     (d .0, c .1 ∙ ap lines-text (d .1))
 
 -- a proper table's text is read as that table
-header-back : (c : Counts) (n : ℕ) → counts-fit c ≡ true → 1 ≤ n → n ≤ 128 → header-read (header-fields c n) n ≡ Ok c
+pub header-back : (c : Counts) (n : ℕ) → counts-fit c ≡ true → 1 ≤ n → n ≤ 128 → header-read (header-fields c n) n ≡ Ok c
 header-back c n fit low high =
     let a = and-parts (within 1 4 (c .processes)) _ fit in
     let b = and-parts (within 1 4 (c .variables)) _ (a .1) in
@@ -93,7 +95,7 @@ header-back c n fit low high =
     let good : header-fits (header-fields c n) n ≡ true = and-from _ _ (a .0) (and-from _ _ (b .0) (and-from _ _ (d .0) (and-from _ _ (d .1) (and-from _ _ rows (and-from (eqb n n) true (eq-eqb n n refl) refl))))) in
     ap (λ (t : Bool). cond t (Ok (counts-of (header-fields c n))) (Err Header)) good
 
-line-count-back : (text : List ℕ) (n : ℕ) → length text ≡ 25 * n → 2 ≤ n → n ≤ 129 → line-count text ≡ Ok n
+pub line-count-back : (text : List ℕ) (n : ℕ) → length text ≡ 25 * n → 2 ≤ n → n ≤ 129 → line-count text ≡ Ok n
 line-count-back text n e low high =
     let whole : length text % 25 ≡ 0 = omega arith in
     let same : length text / 25 ≡ n = omega arith in

@@ -3,3 +3,4 @@ pub mod Reading
 pub mod Refusals
 pub mod Source
 pub mod Tables
+pub mod Faults

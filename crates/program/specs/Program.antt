@@ -1,14 +1,14 @@
 -- What a table says, its text, and what every table keeps.
 use mathlib.Core.Path.{_≡_}
-use mathlib.Core.Bool.{Bool, true, false, cond, _&&_, _||_, not}
+use mathlib.Core.Bool.{Bool, true, false, cond, _&&_, _||_}
 use mathlib.Core.List.{List, [], _∷_, _++_, map}
-use Prim.Native.Nat.{ℕ, zero, suc, _+_, _≤_, _<_}
+use Prim.Native.Nat.{ℕ, _+_, _<_}
 use lib.Dec.{leb, ltb, eqb}
 use lib.ListN.{length, getD}
 use Rattle.std.specs.declared.option.Option.{Option}
 use Rattle.std.specs.declared.option.Option.the-variants.{Some, None}
 use Rattle.std.specs.shelf.Lists.{countBy}
-use Rattle.text.specs.Lines.{line-text}
+use Rattle.text.specs.Lines.{line-text, Small}
 use Rattle.program.specs.declared.rows.Row.{Row}
 use Rattle.program.specs.declared.rows.Counts.{Counts}
 use Rattle.program.specs.declared.rows.Instruction.{Instruction}
@@ -41,6 +41,10 @@ header-fields c n = c .processes ∷ (c .variables ∷ (c .registers ∷ (c .val
 abbrev pub lines-text : List (List ℕ) → List ℕ
 lines-text [] = []
 lines-text (f ∷ fs) = line-text f ++ lines-text fs
+
+-- six numbers that fit their fields
+abbrev pub Six : List ℕ → Type 0
+Six f = (length f ≡ 6) × Small f
 
 -- the table's text: its header and its rows, a line each
 abbrev pub table-fields : Program → List (List ℕ)

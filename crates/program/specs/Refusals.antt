@@ -1,5 +1,4 @@
 -- A refusal as it is told: number, place and the part that found it.
-use Prim.Native.Nat.{ℕ}
 use Rattle.program.specs.declared.refusals.Refusal.{Refusal}
 use Rattle.program.specs.declared.refusals.Refusal.the-variants.{Length, Field, Header, Order, Operand, NoTerm, NoProcess}
 use Rattle.program.specs.declared.refusals.Part.the-variants as part

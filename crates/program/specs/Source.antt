@@ -13,6 +13,7 @@ use Rattle.program.specs.declared.rows.Row.{Row}
 use Rattle.program.specs.declared.rows.Counts.{Counts}
 use Rattle.program.specs.declared.rows.Instruction.{Instruction}
 use Rattle.program.specs.declared.rows.Instruction.the-variants.{Term}
+use Rattle.program.specs.Faults.{Faulty}
 use Rattle.program.specs.Program.{Program, operands-fit, table-text}
 
 pub record Source : Type 0 where
@@ -57,7 +58,12 @@ pub record Proper (s : Source) : Type 0 where
 abbrev pub Text-of : Program → List ℕ → Type 0
 Text-of p text = (s : Source) × Proper s × (p ≡ program-of s) × (text ≡ table-text p)
 
--- An accepted text is that of a proper program, which is the one that is held; a refused text is no proper program's.
+-- A refused text is no proper program's, and wrong in the way that the refusal says.
+pub record Refused (text : List ℕ) (f : Refusal) : Type 0 where
+  pub no-program : (q : Program) → Text-of q text → ⊥
+  pub fault : Faulty text f
+
+-- An accepted text is that of a proper program, which is the one that is held.
 abbrev pub Accepts : List ℕ → Result (Unit {0}) Refusal → Program → Type 0
 Accepts text (Ok _) p = Text-of p text
-Accepts text (Err f) p = (q : Program) → Text-of q text → ⊥
+Accepts text (Err f) p = Refused text f

@@ -1,6 +1,7 @@
 // A table: a small concurrent program, read from its text, checked and held.
 
 mod access;
+mod decoding;
 mod filling;
 mod reading;
 pub mod refusals;

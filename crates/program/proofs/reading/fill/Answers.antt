@@ -1,16 +1,14 @@
 use mathlib.Core.Path.{_≡_, sym, ap, _∙_}
 use mathlib.Core.List.{List, [], _∷_, _++_}
-use Prim.Native.Nat.{ℕ, _+_, _≤_, _<_}
+use Prim.Native.Nat.{ℕ, _+_}
 use native.Mathlib.Omega.{arith}
-use lib.ListN.{length, getD, take, drop, set}
-use Rattle.std.proofs.shelf.Lists.{length-set, take-more-set, drop-all, take-all}
+use lib.ListN.{length, getD, take, drop}
+use Rattle.std.proofs.shelf.Lists.{length-set, take-more-set, drop-all}
 use Rattle.std.proofs.shelf.Results.{err-from-errBy}
-use Rattle.std.specs.declared.result.Result.{Result}
-use Rattle.std.specs.declared.result.Result.the-variants.{Ok, Err}
-use Rattle.program.specs.declared.refusals.Refusal.{Refusal}
+use Rattle.std.specs.declared.result.Result.the-variants.{Ok}
 use Rattle.program.specs.declared.rows.Row.{Row}
 use Rattle.program.specs.Reading.{rows-read, named}
-use Rattle.program.proofs.Fronts.{front, front-all, front-none}
+use Rattle.program.proofs.Fronts.{front, front-all}
 use Rattle.program.proofs.Judged.{rows-more, rows-stop, rows-labels}
 use Rattle.program.proofs.reading.fill.Needs as need
 
@@ -19,9 +17,9 @@ returns-in-Break-next c =
     let p = err-from-errBy (c .from-residual .result) (c .from-residual .ensures .1) in
     let L = λ (q : ℕ). getD (c .args .labels) q 0 in
     let lines = c .args .lines .now in
-    let stop = rows-stop (c .args .counts) L (c .loop-i .process) (c .loop-i .label) (c .loop-i .i + 2) lines (c .loop-i .i) [] (c .loop-i-test .taken) (take (c .loop-i .i) (c .loop-i .rows)) (c .in-Break-next .field-0 .0) (sym (c .in-Break-next .ensures tt)) in
+    let stop = rows-stop (c .args .counts) L (c .loop-i .process) (c .loop-i .label) (c .loop-i .i + 2) lines (c .loop-i .i) [] (c .loop-i-test .taken) (take (c .loop-i .i) (c .loop-i .rows)) (c .in-Break-next .field-0 .0) (c .in-Break-next .ensures tt) in
     let same = rows-labels (c .args .counts) L (named lines) (λ q h. c .pre .1 .1 q (omega arith)) 0 0 2 lines in
-    rw (p .1, p .2) (sym stop ∙ c .loop-i .inv .1 ∙ same)
+    rw (p .1, p .2) (stop ∙ c .loop-i .inv .1 ∙ same)
 
 pub loop-i-again : need.loop-i-again
 loop-i-again c =
@@ -30,7 +28,7 @@ loop-i-again c =
     let next = c .in-Continue-next .next in
     let L = λ (q : ℕ). getD (c .args .labels) q 0 in
     let lines = c .args .lines .now in
-    let step = rows-more (c .args .counts) L (c .loop-i .process) (c .loop-i .label) (i + 2) lines i [] (c .loop-i-test .taken) (take i rows) next (sym (c .in-Continue-next .ensures tt)) in
+    let step = rows-more (c .args .counts) L (c .loop-i .process) (c .loop-i .label) (i + 2) lines i [] (c .loop-i-test .taken) (take i rows) next (c .in-Continue-next .ensures tt) in
     let number : (i + 1) + 2 ≡ (i + 2) + 1 = omega arith in (
       length-set rows i next ∙ c .loop-i .inv .0,
       ap (λ (xs : List Row). front xs (rows-read (c .args .counts) L (next .process) (next .label) ((i + 1) + 2) (drop (i + 1) lines))) (take-more-set rows i next (omega arith))

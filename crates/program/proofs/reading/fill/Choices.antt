@@ -1,5 +1,5 @@
 use mathlib.Core.Path.{_≡_}
-use Prim.Native.Nat.{ℕ, _+_}
+use Prim.Native.Nat.{_+_}
 use lib.ListN.{length, getD, take, drop}
 use Rattle.program.specs.Reading.{rows-read}
 use Rattle.program.proofs.Fronts.{front}

@@ -1,6 +1,5 @@
-use mathlib.Core.Path.{_≡_, refl, sym, ap, _∙_}
-use mathlib.Core.List.{List, []}
-use Rattle.std.specs.Of.Vec.{vec-items}
+use mathlib.Core.Path.{sym, ap}
+use mathlib.Core.List.{List}
 use Rattle.program.specs.declared.rows.Row.{Row}
 use Rattle.program.specs.Program.{kept, places}
 use Rattle.program.proofs.tables.Table.empty.Needs as need

@@ -1,6 +1,5 @@
-use mathlib.Core.Path.{_≡_, sym, ap, _∙_}
+use mathlib.Core.Path.{sym, ap, _∙_}
 use native.Mathlib.Omega.{arith}
-use Rattle.program.specs.declared.rows.Row.{Row}
 use Rattle.program.specs.Program.{row-fields}
 use Rattle.program.specs.Tables.{program}
 use Rattle.program.proofs.Pages.{row-line}

@@ -5,7 +5,6 @@ use native.Mathlib.Omega.{arith}
 use lib.Dec.{eqb}
 use lib.ListN.{length}
 use Rattle.std.proofs.shelf.Lists.{length-map}
-use Rattle.std.specs.Of.Vec.{vec-items}
 use Rattle.program.specs.Program.{is-nothing, row-fields}
 use Rattle.program.specs.Tables.{program}
 use Rattle.program.proofs.Blocks.{tested}

@@ -1,14 +1,14 @@
-use mathlib.Core.Path.{_≡_, sym, ap, subst, _∙_}
+use mathlib.Core.Path.{_≡_, ap, _∙_}
 use mathlib.Core.Bool.{true}
-use mathlib.Core.List.{List, []}
-use Prim.Native.Nat.{ℕ, _<_}
+use mathlib.Core.List.{[]}
+use Prim.Native.Nat.{_<_}
 use native.Mathlib.Omega.{arith}
 use lib.ListN.{length, getD}
 use Rattle.std.proofs.shelf.Elements.{all-getD}
 use Rattle.text.specs.Lines.{all-small}
 use Rattle.text.proofs.Lines.{small-is-all}
+use Rattle.program.specs.Program.{Six}
 use Rattle.program.specs.Tables.{program, lines-of}
-use Rattle.program.proofs.Lines.{Six}
 use Rattle.program.proofs.Pages.{lines-six, text-back, page-more, page-short, page-all}
 use Rattle.program.proofs.tables.Table.write.Needs as need
 
