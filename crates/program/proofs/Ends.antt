@@ -8,16 +8,11 @@ use lib.Dec.{eqb, ltb}
 use lib.ListN.{length, getD, drop}
 use Rattle.std.proofs.shelf.Lists.{drop-more, drop-all}
 use Rattle.std.proofs.shelf.Tests.{or-from, or-left, or-right, eq-eqb, ne-eqb, lt-ltb, le-ltb}
-use Rattle.std.specs.declared.result.Result.{Result}
 use Rattle.std.specs.declared.result.Result.the-variants.{Ok, Err}
-use Rattle.program.specs.declared.refusals.Refusal.{Refusal}
 use Rattle.program.specs.declared.refusals.Refusal.the-variants.{NoTerm, NoProcess}
 use Rattle.program.specs.declared.rows.Row.{Row}
 use Rattle.program.specs.Program.{is-term}
 use Rattle.program.specs.Reading.{ends-read}
-
-abbrev Told : Type 0
-Told = Result (Unit {0}) Refusal
 
 module _ (P : ℕ) (rows : List Row) (d : Row) where
   -- a row and the next one

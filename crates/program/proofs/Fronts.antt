@@ -11,10 +11,6 @@ front xs (Ok ys) = Ok (xs ++ ys)
 front xs (Err e) = Err e
 
 module _ {A E : Type 0} where
-  pub front-none : (r : Result (List A) E) → front [] r ≡ r
-  front-none (Ok ys) = refl
-  front-none (Err e) = refl
-
   -- one element more
   pub front-push : (xs : List A) (x : A) (r : Result (List A) E) → front xs (cons-to (Ok x) r) ≡ front (xs ++ (x ∷ [])) r
   front-push xs x (Ok ys) = ap Ok (sym (append-assoc xs (x ∷ []) ys))

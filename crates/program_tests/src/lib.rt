@@ -18,139 +18,95 @@ mod tests {
     // The first lines of a table, how many of the four are meant, and what is told of them: the
     // number and the place of the refusal, zeros where the table is accepted.
     #[derive(Clone, Copy)]
-    struct Case {
-        lines: [[u16; 6]; 4],
-        count: usize,
-        told: (u8, u8),
-    }
+    struct Case([[u16; 6]; 4], usize, (u8, u8));
 
     const CASES: [Case; 21] = [
-        Case {
-            lines: [[1, 1, 1, 2, 1, 0], TERM, PAD, PAD],
-            count: 2,
-            told: (0, 0),
-        },
+        Case([[1, 1, 1, 2, 1, 0], TERM, PAD, PAD], 2, (0, 0)),
         // Each number of the header just outside its limits.
-        Case {
-            lines: [[0, 1, 1, 2, 1, 0], TERM, PAD, PAD],
-            count: 2,
-            told: (13, 1),
-        },
-        Case {
-            lines: [[5, 1, 1, 2, 1, 0], TERM, PAD, PAD],
-            count: 2,
-            told: (13, 1),
-        },
-        Case {
-            lines: [[1, 5, 1, 2, 1, 0], TERM, PAD, PAD],
-            count: 2,
-            told: (13, 1),
-        },
-        Case {
-            lines: [[1, 1, 5, 2, 1, 0], TERM, PAD, PAD],
-            count: 2,
-            told: (13, 1),
-        },
-        Case {
-            lines: [[1, 1, 1, 1, 1, 0], TERM, PAD, PAD],
-            count: 2,
-            told: (13, 1),
-        },
-        Case {
-            lines: [[1, 1, 1, 9, 1, 0], TERM, PAD, PAD],
-            count: 2,
-            told: (13, 1),
-        },
-        Case {
-            lines: [[1, 1, 1, 2, 2, 0], TERM, PAD, PAD],
-            count: 2,
-            told: (13, 1),
-        },
-        Case {
-            lines: [[1, 1, 1, 2, 1, 1], TERM, PAD, PAD],
-            count: 2,
-            told: (13, 1),
-        },
+        Case([[0, 1, 1, 2, 1, 0], TERM, PAD, PAD], 2, (13, 1)),
+        Case([[5, 1, 1, 2, 1, 0], TERM, PAD, PAD], 2, (13, 1)),
+        Case([[1, 5, 1, 2, 1, 0], TERM, PAD, PAD], 2, (13, 1)),
+        Case([[1, 1, 5, 2, 1, 0], TERM, PAD, PAD], 2, (13, 1)),
+        Case([[1, 1, 1, 1, 1, 0], TERM, PAD, PAD], 2, (13, 1)),
+        Case([[1, 1, 1, 9, 1, 0], TERM, PAD, PAD], 2, (13, 1)),
+        Case([[1, 1, 1, 2, 2, 0], TERM, PAD, PAD], 2, (13, 1)),
+        Case([[1, 1, 1, 2, 1, 1], TERM, PAD, PAD], 2, (13, 1)),
         // The first row is process 1, label 1; the others follow.
-        Case {
-            lines: [[1, 1, 1, 2, 1, 0], [1, 2, 9, 0, 0, 0], PAD, PAD],
-            count: 2,
-            told: (14, 2),
-        },
-        Case {
-            lines: [[2, 1, 1, 2, 1, 0], [2, 1, 9, 0, 0, 0], PAD, PAD],
-            count: 2,
-            told: (14, 2),
-        },
-        Case {
-            lines: [[1, 1, 1, 2, 2, 0], TERM, [2, 1, 9, 0, 0, 0], PAD],
-            count: 3,
-            told: (14, 3),
-        },
+        Case(
+            [[1, 1, 1, 2, 1, 0], [1, 2, 9, 0, 0, 0], PAD, PAD],
+            2,
+            (14, 2),
+        ),
+        Case(
+            [[2, 1, 1, 2, 1, 0], [2, 1, 9, 0, 0, 0], PAD, PAD],
+            2,
+            (14, 2),
+        ),
+        Case(
+            [[1, 1, 1, 2, 2, 0], TERM, [2, 1, 9, 0, 0, 0], PAD],
+            3,
+            (14, 3),
+        ),
         // No such register, constant, instruction; an operand that should be 0.
-        Case {
-            lines: [[1, 1, 1, 2, 1, 0], [1, 1, 1, 2, 1, 0], PAD, PAD],
-            count: 2,
-            told: (15, 2),
-        },
-        Case {
-            lines: [[1, 1, 1, 2, 1, 0], [1, 1, 4, 1, 2, 0], PAD, PAD],
-            count: 2,
-            told: (15, 2),
-        },
-        Case {
-            lines: [[1, 1, 1, 2, 1, 0], [1, 1, 10, 0, 0, 0], PAD, PAD],
-            count: 2,
-            told: (15, 2),
-        },
-        Case {
-            lines: [[1, 1, 1, 2, 1, 0], [1, 1, 9, 0, 0, 1], PAD, PAD],
-            count: 2,
-            told: (15, 2),
-        },
+        Case(
+            [[1, 1, 1, 2, 1, 0], [1, 1, 1, 2, 1, 0], PAD, PAD],
+            2,
+            (15, 2),
+        ),
+        Case(
+            [[1, 1, 1, 2, 1, 0], [1, 1, 4, 1, 2, 0], PAD, PAD],
+            2,
+            (15, 2),
+        ),
+        Case(
+            [[1, 1, 1, 2, 1, 0], [1, 1, 10, 0, 0, 0], PAD, PAD],
+            2,
+            (15, 2),
+        ),
+        Case(
+            [[1, 1, 1, 2, 1, 0], [1, 1, 9, 0, 0, 1], PAD, PAD],
+            2,
+            (15, 2),
+        ),
         // An operand higher up comes before an order further down.
-        Case {
-            lines: [
+        Case(
+            [
                 [1, 1, 1, 2, 2, 0],
                 [1, 1, 4, 1, 2, 0],
                 [1, 3, 9, 0, 0, 0],
                 PAD,
             ],
-            count: 3,
-            told: (15, 2),
-        },
+            3,
+            (15, 2),
+        ),
         // A label is one of the row's own process: it has one here, and the other process two.
-        Case {
-            lines: [
+        Case(
+            [
                 [2, 1, 1, 2, 3, 0],
                 [1, 1, 6, 1, 1, 2],
                 [2, 1, 8, 0, 0, 0],
                 [2, 2, 9, 0, 0, 0],
             ],
-            count: 4,
-            told: (15, 2),
-        },
+            4,
+            (15, 2),
+        ),
         // The lowest process that does not end in TERM, then a process without rows.
-        Case {
-            lines: [
+        Case(
+            [
                 [2, 1, 1, 2, 2, 0],
                 [1, 1, 8, 0, 0, 0],
                 [2, 1, 8, 0, 0, 0],
                 PAD,
             ],
-            count: 3,
-            told: (16, 2),
-        },
-        Case {
-            lines: [[2, 1, 1, 2, 2, 0], TERM, [2, 1, 8, 0, 0, 0], PAD],
-            count: 3,
-            told: (16, 3),
-        },
-        Case {
-            lines: [[2, 1, 1, 2, 1, 0], TERM, PAD, PAD],
-            count: 2,
-            told: (16, 2),
-        },
+            3,
+            (16, 2),
+        ),
+        Case(
+            [[2, 1, 1, 2, 2, 0], TERM, [2, 1, 8, 0, 0, 0], PAD],
+            3,
+            (16, 3),
+        ),
+        Case([[2, 1, 1, 2, 1, 0], TERM, PAD, PAD], 2, (16, 2)),
     ];
 
     // Adds a line of six numbers to a text.
@@ -185,10 +141,10 @@ mod tests {
         let mut table = Table::empty(heap)?;
         for case in CASES {
             let mut text = Vec::new(heap);
-            for line in case.lines.iter().take(case.count) {
+            for line in case.0.iter().take(case.1) {
                 add_line(&mut text, line)?;
             }
-            check_eq(told(&mut table, text.as_slice()), case.told)?;
+            check_eq(told(&mut table, text.as_slice()), case.2)?;
             // The table of the first case is still there.
             check_eq(table.instruction(1, 1), Some(Instruction::Term))?;
         }
