@@ -1,2 +1,1 @@
-mod Answered
 mod RowWords

@@ -20,3 +20,4 @@ pub mod Pages
 pub mod Words
 pub mod Faulted
 pub mod FaultedRows
+pub mod Taken

@@ -15,7 +15,7 @@ use Rattle.std.specs.declared.option.Option.the-variants.{Some, None}
 use Rattle.program.specs.declared.rows.Row.{Row}
 use Rattle.program.specs.declared.rows.Counts.{Counts}
 use Rattle.program.specs.declared.rows.Instruction.{Instruction}
-use Rattle.program.specs.Program.{Program, labels-of, rows-below, rows-fit, proper, kept, counts-none, is-nothing, Counted, places, sums, instruction-at}
+use Rattle.program.specs.Program.{Program, labels-of, rows-below, rows-fit, proper, kept, counts-none, is-nothing, Counted, starts-of, sums, instruction-at}
 use Rattle.program.specs.Tables.{Fits-at}
 use Rattle.program.proofs.Follows.{next}
 use Rattle.program.proofs.Blocks.{tested}
@@ -50,10 +50,10 @@ module _ (labels : List ℕ) (rows : List Row) (counted : Counted labels (labels
   pub sums-few : getD labels 0 0 + getD labels 1 0 + getD labels 2 0 + getD labels 3 0 + getD labels 4 0 ≤ length rows
   sums-few = omega (arith, five, below-few rows 5)
 
-  pub sums-are : sums labels ≡ places rows
+  pub sums-are : sums labels ≡ starts-of rows
   sums-are = let a = below-zero rows in let b = one in let c = two in let d = three in let e = four in let f = five in cc
 
-place-at : (rows : List Row) (q : ℕ) → q < 6 → getD (places rows) q 0 ≡ rows-below rows q
+place-at : (rows : List Row) (q : ℕ) → q < 6 → getD (starts-of rows) q 0 ≡ rows-below rows q
 place-at rows zero h = refl
 place-at rows (suc zero) h = refl
 place-at rows (suc (suc zero)) h = refl
@@ -62,7 +62,7 @@ place-at rows (suc (suc (suc (suc zero)))) h = refl
 place-at rows (suc (suc (suc (suc (suc zero))))) h = refl
 place-at rows (suc (suc (suc (suc (suc (suc q)))))) h = let z : ⊥ = omega arith in elim z [ ]
 
-module _ (starts : List ℕ) (rows : List Row) (placed : starts ≡ places rows) (q : ℕ) (low : q ≤ 4) where
+module _ (starts : List ℕ) (rows : List Row) (placed : starts ≡ starts-of rows) (q : ℕ) (low : q ≤ 4) where
   pub start-at : getD starts q 0 ≡ rows-below rows q
   start-at = ap (λ (s : List ℕ). getD s q 0) placed ∙ place-at rows q (omega arith)
 

@@ -142,8 +142,8 @@ abbrev pub kept : Program → Bool
 kept p = (counts-none (p .counts) && is-nothing p) || proper p
 
 -- where the rows of each process begin: how many rows name a lower one
-abbrev pub places : List Row → List ℕ
-places rows = rows-below rows 0 ∷ (rows-below rows 1 ∷ (rows-below rows 2 ∷ (rows-below rows 3 ∷ (rows-below rows 4 ∷ (rows-below rows 5 ∷ [])))))
+abbrev pub starts-of : List Row → List ℕ
+starts-of rows = rows-below rows 0 ∷ (rows-below rows 1 ∷ (rows-below rows 2 ∷ (rows-below rows 3 ∷ (rows-below rows 4 ∷ (rows-below rows 5 ∷ [])))))
 
 -- how many of the first none, one, two .. five
 abbrev pub sums : List ℕ → List ℕ

@@ -36,7 +36,7 @@ impl Table {
             return 0;
         }
         let at = usize::from(process);
-        self.places[at + 1] - self.places[at]
+        self.starts[at + 1] - self.starts[at]
     }
 
     // The instruction of a process at a label.
@@ -47,7 +47,7 @@ impl Table {
         if label < 1 || label > self.labels(process) {
             return None;
         }
-        let first = usize::from(self.places[usize::from(process)]);
+        let first = usize::from(self.starts[usize::from(process)]);
         Some(self.rows[first + usize::from(label) - 1].instruction)
     }
 }

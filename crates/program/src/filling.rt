@@ -24,7 +24,7 @@ const BLANK: Row = Row {
 };
 
 // How many rows stand before those of each process, from how many name each.
-fn places(labels: [u8; 5]) -> [u8; 6]
+fn running_sums(labels: [u8; 5]) -> [u8; 6]
     requires { ⌜ getD labels 0 0 + getD labels 1 0 + getD labels 2 0 + getD labels 3 0 + getD labels 4 0 ≤ 128 ⌝ }
     ensures { λ r. ⌜ r ≡ sums labels ⌝ }
 {
@@ -50,7 +50,7 @@ impl Table {
         };
         Ok(Table {
             counts,
-            places: [0; 6],
+            starts: [0; 6],
             rows,
         })
     }
@@ -60,11 +60,11 @@ impl Table {
         requires { ⌜ proper (record { counts = parsed .counts; rows = now rows }) ≡ true ⌝ ∗ ⌜ Counted (parsed .labels) (labels-of (now rows)) ⌝ }
         ensures { λ _. ⌜ program (now (self .exit)) ≡ record { counts = parsed .counts; rows = now (rows .entry) } ⌝ }
     {
-        let starts = places(parsed.labels);
+        let starts = running_sums(parsed.labels);
         self.rows.clear();
         let _ = self.rows.extend_from_slice(rows);
         self.counts = parsed.counts;
-        self.places = starts;
+        self.starts = starts;
     }
 
     // Reads a table from its text; a refusal leaves the table as it was.

@@ -1,5 +1,5 @@
 -- What is printed follows what was read.
-use Rattle.listing.proofs.Answered.{read-ok, read-err}
+use Rattle.program.proofs.Taken.{read-ok, read-err}
 use Rattle.listing.proofs.answer.Needs as need
 
 pub returns-in-Ok : need.returns-in-Ok

@@ -7,13 +7,13 @@ use lib.ListN.{length}
 use Rattle.std.proofs.shelf.Tests.{or-right}
 use Rattle.std.specs.Of.Vec.{vec-items, vec-len, vec-cap}
 use Rattle.program.specs.declared.rows.Row.{Row}
-use Rattle.program.specs.Program.{kept, proper, places, counts-none, is-nothing}
+use Rattle.program.specs.Program.{kept, proper, starts-of, counts-none, is-nothing}
 use Rattle.program.proofs.Blocks.{tested}
 use Rattle.program.proofs.Starts.{sums-few, sums-are}
 use Rattle.program.proofs.tables.Table.hold.Needs as need
 
-pub places-starts-requires : need.places-starts-requires
-places-starts-requires c κs =
+pub running-sums-starts-requires : need.running-sums-starts-requires
+running-sums-starts-requires c κs =
     let good = tested (record { counts = c .args .parsed .counts; rows = c .args .rows .now }) (c .pre .0) in
     omega (arith, good .short, sums-few (c .args .parsed .labels) (c .args .rows .now) (c .pre .1))
 
@@ -31,7 +31,7 @@ ghost-self c =
     let keeps : kept (record { counts = counts; rows = rows }) ≡ true = or-right (counts-none counts && is-nothing (record { counts = counts; rows = rows })) (proper (record { counts = counts; rows = rows })) (c .pre .0) in (
       subst (λ (xs : List Row). kept (record { counts = counts; rows = xs }) ≡ true) (sym items) keeps,
       (
-        c .places-starts .ensures ∙ sums-are (c .args .parsed .labels) rows (c .pre .1) ∙ ap places (sym items),
+        c .running-sums-starts .ensures ∙ sums-are (c .args .parsed .labels) rows (c .pre .1) ∙ ap starts-of (sym items),
         (omega (arith, c .extend-from-slice .ensures .capacity), tt),
       ),
     )

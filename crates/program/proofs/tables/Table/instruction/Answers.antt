@@ -26,8 +26,8 @@ module _ (t : Table) (q l : ℕ) (low : 1 ≤ l) (high : l ≤ labels-of (vec-it
   process : q ≤ 4
   process = is-process (program t) (t .keeps) q l low high
 
-  first : getD (t .places) q 0 ≡ rows-below (vec-items (t .rows)) q
-  first = start-at (t .places) (vec-items (t .rows)) (t .placed) q process
+  first : getD (t .starts) q 0 ≡ rows-below (vec-items (t .rows)) q
+  first = start-at (t .starts) (vec-items (t .rows)) (t .placed) q process
 
 pub index-self-from : need.index-self-from
 index-self-from c =
@@ -42,7 +42,7 @@ index-requires c κs =
     let l = c .args .label in
     let low : 1 ≤ l = omega arith in
     let high : l ≤ labels-of (vec-items (t .rows)) q = omega (arith, c .labels .ensures) in
-    let from : c .from-first .result ≡ rows-below (vec-items (t .rows)) q = c .from-first .ensures ∙ ap (λ (n : ℕ). getD (t .places) n 0) (c .from .ensures) ∙ first t q l low high in
+    let from : c .from-first .result ≡ rows-below (vec-items (t .rows)) q = c .from-first .ensures ∙ ap (λ (n : ℕ). getD (t .starts) n 0) (c .from .ensures) ∙ first t q l low high in
     omega (arith, place-low (program t) (t .keeps) q l low high, from, c .from-2 .ensures, t .rows .ok .0)
 
 pub returns : need.returns
@@ -53,7 +53,7 @@ returns c =
     let d = c .index .result .now in
     let low : 1 ≤ l = omega arith in
     let high : l ≤ labels-of (vec-items (t .rows)) q = omega (arith, c .labels .ensures) in
-    let from : c .from-first .result ≡ rows-below (vec-items (t .rows)) q = c .from-first .ensures ∙ ap (λ (n : ℕ). getD (t .places) n 0) (c .from .ensures) ∙ first t q l low high in
+    let from : c .from-first .result ≡ rows-below (vec-items (t .rows)) q = c .from-first .ensures ∙ ap (λ (n : ℕ). getD (t .starts) n 0) (c .from .ensures) ∙ first t q l low high in
     let place : (c .from-first .result + c .from-2 .result) - 1 ≡ rows-below (vec-items (t .rows)) q + (l - 1) = omega (arith, from, c .from-2 .ensures) in
     let item : d ≡ getD (vec-items (t .rows)) (rows-below (vec-items (t .rows)) q + (l - 1)) d = c .index .ensures ∙ ap (λ (n : ℕ). getD (vec-items (t .rows)) n d) place in
     let value = ap (λ (r : Row). Some (r .instruction)) item ∙ sym (at-place (program t) (t .keeps) q l d low high) in

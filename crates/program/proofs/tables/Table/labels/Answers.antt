@@ -13,10 +13,10 @@ returns-then-process-gt4 c = sym (past-last (program (c .args .self .now)) (c .a
 pub sub-result : need.sub-result
 sub-result c =
     let low : c .from-at .result ≤ 4 = omega arith in
-    starts-rise (c .args .self .now .places) (vec-items (c .args .self .now .rows)) (c .args .self .now .placed) (c .from-at .result) low
+    starts-rise (c .args .self .now .starts) (vec-items (c .args .self .now .rows)) (c .args .self .now .placed) (c .from-at .result) low
 
 pub returns : need.returns
 returns c =
     let low : c .from-at .result ≤ 4 = omega arith in
-    starts-count (c .args .self .now .places) (vec-items (c .args .self .now .rows)) (c .args .self .now .placed) (c .from-at .result) low
+    starts-count (c .args .self .now .starts) (vec-items (c .args .self .now .rows)) (c .args .self .now .placed) (c .from-at .result) low
     ∙ ap (λ (q : ℕ). labels-of (vec-items (c .args .self .now .rows)) q) (c .from-at .ensures)
