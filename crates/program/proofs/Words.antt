@@ -13,7 +13,7 @@ use Rattle.std.specs.shelf.Lists.{All}
 use Rattle.program.specs.Faults.{Faulty, Headed, Judged}
 use Rattle.program.specs.Program.{Program, Six, lines-text, proper, rows-fit}
 use Rattle.program.specs.Reading.{then-do, line-count, lines, numbers, lines-read, header-read, named, rows-read, ends-read, body-read, table-read, read}
-use Rattle.program.specs.Source.{Text-of, Accepts}
+use Rattle.program.specs.Source.{Text-of, Says-of}
 use Rattle.program.specs.Tables.{taken-in}
 use Rattle.program.proofs.Blocks.{blocks, proper-source}
 use Rattle.program.proofs.Faulted.{no-lines, no-numbers, no-header}
@@ -66,9 +66,9 @@ faults text f e = elim (then-err (lines-read text) table-read f e) [
       refused-table text (t .0) f (c .0) (c .1) (omega (arith, c .2, long .1)) (omega (arith, c .2, long .2)) (t .2)
 ]
 
-by-outcome : (text : List ℕ) (old : Program) (o : Result Program Refusal) → read text ≡ o → Accepts text (taken-in old o .0) (taken-in old o .1)
+by-outcome : (text : List ℕ) (old : Program) (o : Result Program Refusal) → read text ≡ o → Says-of text (taken-in old o .0) (taken-in old o .1)
 by-outcome text old (Ok p) e = accepted text p e
 by-outcome text old (Err f) e = record { no-program = refused text f e; fault = faults text f e }
 
-pub accepts : (text : List ℕ) (old new : Program) (r : Result (Unit {0}) Refusal) → (r, new) ≡ taken-in old (read text) → Accepts text r new
-accepts text old new r e = subst (λ (o : Result (Unit {0}) Refusal × Program). Accepts text (o .0) (o .1)) (sym e) (by-outcome text old (read text) refl)
+pub accepts : (text : List ℕ) (old new : Program) (r : Result (Unit {0}) Refusal) → (r, new) ≡ taken-in old (read text) → Says-of text r new
+accepts text old new r e = subst (λ (o : Result (Unit {0}) Refusal × Program). Says-of text (o .0) (o .1)) (sym e) (by-outcome text old (read text) refl)

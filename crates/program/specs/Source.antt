@@ -63,7 +63,8 @@ pub record Refused (text : List ℕ) (f : Refusal) : Type 0 where
   pub no-program : (q : Program) → Text-of q text → ⊥
   pub fault : Faulty text f
 
--- An accepted text is that of a proper program, which is the one that is held.
-abbrev pub Accepts : List ℕ → Result (Unit {0}) Refusal → Program → Type 0
-Accepts text (Ok _) p = Text-of p text
-Accepts text (Err f) p = Refused text f
+-- What an answer says of the text and of what the table says then: an accepted text is that of a proper
+-- program, which the table holds; a refused one is none's, and wrong where the refusal says.
+abbrev pub Says-of : List ℕ → Result (Unit {0}) Refusal → Program → Type 0
+Says-of text (Ok _) p = Text-of p text
+Says-of text (Err f) p = Refused text f

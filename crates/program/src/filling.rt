@@ -5,7 +5,7 @@ ghost use lib.ListN.{getD};
 ghost use Rattle.std.specs.Vec.{made};
 ghost use Rattle.program.specs.Program.{nothing, proper, labels-of, Counted, sums};
 ghost use Rattle.program.specs.Reading.{read};
-ghost use Rattle.program.specs.Source.{Accepts};
+ghost use Rattle.program.specs.Source.{Says-of};
 ghost use Rattle.program.specs.Tables.{program, taken-in};
 use super::reading::Parsed;
 use super::reading::parse;
@@ -70,7 +70,7 @@ impl Table {
     // Reads a table from its text; a refusal leaves the table as it was.
     pub fn read(&mut self, text: &[u8]) -> Result<(), Refusal>
         ensures value { λ r. ⌜ (r, program (now (self .exit))) ≡ taken-in (program (now (self .entry))) (read (now (text .entry))) ⌝ }
-        ensures words { λ r. ⌜ Accepts (now (text .entry)) r (program (now (self .exit))) ⌝ }
+        ensures words { λ r. ⌜ Says-of (now (text .entry)) r (program (now (self .exit))) ⌝ }
     {
         let mut rows = [BLANK; 128];
         let parsed = parse(text, &mut rows)?;

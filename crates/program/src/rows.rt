@@ -23,7 +23,7 @@ pub enum Instruction {
 }
 
 // One instruction of a table, with the process and the label that it belongs to.
-#[derive(Clone, Copy, Debug, PartialEq, Eq)]
+#[derive(Clone, Copy)]
 pub struct Row {
     pub process: u8,
     pub label: u8,
