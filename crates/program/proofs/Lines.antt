@@ -44,7 +44,7 @@ module _ (n i : ℕ) (text : List ℕ) (h : i < n) (xs : List (List ℕ)) where
 
 -- the numbers read are those whose lines the text is
 pub line-is : (b f : List ℕ) → line-numbers 6 b ≡ Some f → Six f × (b ≡ line-text f)
-line-is b f e = let r = subst (Reads 6 b) e (numbers-read 6 b) in ((r .0, r .1), r .2)
+line-is b f e = let r = subst (Reads 6 b) e (numbers-read 6 b) in ((r .0 .0, r .0 .1), r .0 .2)
 
 pub numbers-are : (n i : ℕ) (text : List ℕ) (fs : List (List ℕ)) → length text ≡ 25 * n → numbers i (lines n text) ≡ Ok fs → All Six fs × (text ≡ lines-text fs) × (length fs ≡ n)
 numbers-are zero i text fs h e =

@@ -1,6 +1,5 @@
 -- A text is accepted exactly when it is that of a program with all the properties.
 use mathlib.Core.Path.{_≡_, refl, sym, ap, subst, _∙_}
-use mathlib.Core.Bool.{true}
 use mathlib.Core.Logic.{inl, inr}
 use mathlib.Core.List.{List, [], _∷_}
 use Prim.Native.Nat.{ℕ, _≤_}
@@ -13,7 +12,7 @@ use Rattle.std.specs.shelf.Lists.{All}
 use Rattle.program.specs.Faults.{Faulty, Headed, Judged}
 use Rattle.program.specs.Program.{Program, Six, lines-text, proper, rows-fit}
 use Rattle.program.specs.Reading.{then-do, line-count, lines, numbers, lines-read, header-read, named, rows-read, ends-read, body-read, table-read, read}
-use Rattle.program.specs.Source.{Text-of, Says-of}
+use Rattle.program.specs.Source.{Text-of, Accepted, Says-of}
 use Rattle.program.specs.Tables.{taken-in}
 use Rattle.program.proofs.Blocks.{blocks, proper-source}
 use Rattle.program.proofs.Faulted.{no-lines, no-numbers, no-header}
@@ -23,13 +22,18 @@ use Rattle.program.proofs.Outcomes.{not-both, ok-not-err, then-err, then-ok}
 use Rattle.program.proofs.RowTexts.{rows-are}
 use Rattle.program.proofs.Texts.{header-is, line-count-is, read-is, read-back}
 
-accepted : (text : List ℕ) (p : Program) → read text ≡ Ok p → Text-of p text
-accepted text p e = let r = read-is text p e in let b = blocks p (r .0) in (b .0, b .1, b .2, r .1)
+-- a proper program's text is read as that program
+is-read : (text : List ℕ) (q : Program) → Text-of q text → read text ≡ Ok q
+is-read text q t = ap read (t .3) ∙ read-back q (ap proper (t .2) ∙ proper-source (t .0) (t .1))
+
+accepted : (text : List ℕ) (p : Program) → read text ≡ Ok p → Accepted text p
+accepted text p e =
+    let r = read-is text p e in
+    let b = blocks p (r .0) in
+    record { text-of = (b .0, b .1, b .2, r .1); only = λ q t. let other = is-read text q t in cc }
 
 refused : (text : List ℕ) (f : Refusal) → read text ≡ Err f → (q : Program) → Text-of q text → ⊥
-refused text f e q t =
-    let good : proper q ≡ true = ap proper (t .2) ∙ proper-source (t .0) (t .1) in
-    not-both f q (sym e ∙ ap read (t .3) ∙ read-back q good)
+refused text f e q t = not-both f q (sym e ∙ is-read text q t)
 
 -- what was refused is wrong in the way that the refusal says
 refused-table : (text : List ℕ) (fs : List (List ℕ)) (f : Refusal) → All Six fs → text ≡ lines-text fs → 2 ≤ length fs → length fs ≤ 129 → table-read fs ≡ Err f → Faulty text f

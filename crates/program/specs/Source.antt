@@ -58,13 +58,17 @@ pub record Proper (s : Source) : Type 0 where
 abbrev pub Text-of : Program → List ℕ → Type 0
 Text-of p text = (s : Source) × Proper s × (p ≡ program-of s) × (text ≡ table-text p)
 
+-- An accepted text is that of one program with all the properties, p, and of no other.
+pub record Accepted (text : List ℕ) (p : Program) : Type 0 where
+  pub text-of : Text-of p text
+  pub only : (q : Program) → Text-of q text → q ≡ p
+
 -- A refused text is no proper program's, and wrong in the way that the refusal says.
 pub record Refused (text : List ℕ) (f : Refusal) : Type 0 where
   pub no-program : (q : Program) → Text-of q text → ⊥
   pub fault : Faulty text f
 
--- What an answer says of the text and of what the table says then: an accepted text is that of a proper
--- program, which the table holds; a refused one is none's, and wrong where the refusal says.
+-- What an answer says of the text, where the table says p then.
 abbrev pub Says-of : List ℕ → Result (Unit {0}) Refusal → Program → Type 0
-Says-of text (Ok _) p = Text-of p text
+Says-of text (Ok _) p = Accepted text p
 Says-of text (Err f) p = Refused text f

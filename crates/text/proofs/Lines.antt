@@ -10,7 +10,7 @@ use Rattle.std.specs.declared.option.Option.{Option}
 use Rattle.std.specs.declared.option.Option.the-variants.{Some, None}
 use Rattle.std.proofs.shelf.Tests.{and-parts, and-from, leb-true, le-leb}
 use Rattle.std.proofs.shelf.Ways.{tells}
-use Rattle.text.specs.Lines.{field-text, line-text, Small, all-small, field-number, joined-to, line-numbers, Reads}
+use Rattle.text.specs.Lines.{field-text, line-text, Small, all-small, field-number, joined-to, line-numbers, Reads, Is-line}
 use Rattle.text.proofs.Fields.{field-read, field-read-back}
 
 pub all-small-is : (ns : List ℕ) → all-small ns ≡ true → Small ns
@@ -43,7 +43,7 @@ joined-some None r ns e = apart e
 end-read : (f : ℕ) (ns : List ℕ) → line-numbers 0 (f ∷ []) ≡ Some ns → (f ≡ 10) × ([] ≡ ns)
 end-read f ns e = grind (arith, tells)
 
-read-told : (k : ℕ) (bytes ns : List ℕ) → line-numbers k bytes ≡ Some ns → (length ns ≡ k) × Small ns × (bytes ≡ line-text ns)
+read-told : (k : ℕ) (bytes ns : List ℕ) → line-numbers k bytes ≡ Some ns → Is-line k ns bytes
 read-told zero [] ns e = apart e
 read-told zero (f ∷ []) ns e =
     let p = end-read f ns e in
@@ -65,10 +65,14 @@ pub line-read-back : (ns : List ℕ) → Small ns → line-numbers (length ns) (
 line-read-back [] h = refl
 line-read-back (n ∷ ns) h = ap (λ (o : Option ℕ). joined-to o (line-numbers (length ns) (line-text ns))) (field-read-back n (h .0)) ∙ ap (λ (r : Option (List ℕ)). joined-to (Some n) r) (line-read-back ns (h .1))
 
+-- a line's text reads as its numbers
+is-read : (k : ℕ) (bytes ns : List ℕ) → Is-line k ns bytes → line-numbers k bytes ≡ Some ns
+is-read k bytes ns h = ap (λ (xs : List ℕ). line-numbers k xs) (h .2) ∙ ap (λ (m : ℕ). line-numbers m (line-text ns)) (sym (h .0)) ∙ line-read-back ns (h .1)
+
 -- both ways at once, of whatever equals what is read
 pub same-reads : (k : ℕ) (bytes : List ℕ) (r : Option (List ℕ)) → r ≡ line-numbers k bytes → Reads k bytes r
-same-reads k bytes (Some ns) e = read-told k bytes ns (sym e)
-same-reads k bytes None e = λ ns l h t. apart (e ∙ ap (λ (xs : List ℕ). line-numbers k xs) t ∙ ap (λ (m : ℕ). line-numbers m (line-text ns)) (sym l) ∙ line-read-back ns h)
+same-reads k bytes (Some ns) e = (read-told k bytes ns (sym e), λ ms h. let read = is-read k bytes ms h in cc)
+same-reads k bytes None e = λ ns h. apart (e ∙ is-read k bytes ns h)
 
 pub numbers-read : (k : ℕ) (bytes : List ℕ) → Reads k bytes (line-numbers k bytes)
 numbers-read k bytes = same-reads k bytes (line-numbers k bytes) refl

@@ -13,8 +13,9 @@ use Rattle.text.proofs.Lines.{length-line, line-end, numbers-read}
 -- k fields are 4 k bytes, and a byte 10 follows them: where that fails, nothing is read
 unread-of : (k : ℕ) (bytes : List ℕ) (r : Option (List ℕ)) → Reads k bytes r → (length bytes ≡ 4 * k + 1 → getD bytes (4 * k) 0 ≡ 10 → ⊥) → None ≡ r
 unread-of k bytes (Some ns) h bad =
+    let is = h .0 in
     let four : 4 * k ≡ 4 * length ns = omega arith in
-    absurd (bad (omega (arith, ap length (h .2), length-line ns)) (ap (λ (xs : List ℕ). getD xs (4 * k) 0) (h .2) ∙ ap (λ (m : ℕ). getD (line-text ns) m 0) four ∙ line-end ns))
+    absurd (bad (omega (arith, ap length (is .2), length-line ns)) (ap (λ (xs : List ℕ). getD xs (4 * k) 0) (is .2) ∙ ap (λ (m : ℕ). getD (line-text ns) m 0) four ∙ line-end ns))
 unread-of k bytes None h bad = refl
 
 pub unread : (k : ℕ) (bytes : List ℕ) → (length bytes ≡ 4 * k + 1 → getD bytes (4 * k) 0 ≡ 10 → ⊥) → None ≡ line-numbers k bytes

@@ -64,8 +64,12 @@ line-numbers (suc k) (a ∷ (b ∷ [])) = None
 line-numbers (suc k) (a ∷ (b ∷ (c ∷ []))) = None
 line-numbers (suc k) (a ∷ (b ∷ (c ∷ (d ∷ bs)))) = joined-to (field-number a b c d) (line-numbers k bs)
 
--- Reading in the subject's words: the numbers read are k numbers that fit, and the bytes are their
--- text; where nothing is read, the bytes are no such numbers' text.
+-- k numbers that fit, and the bytes are their text
+abbrev pub Is-line : ℕ → List ℕ → List ℕ → Type 0
+Is-line k ns bytes = (length ns ≡ k) × Small ns × (bytes ≡ line-text ns)
+
+-- Reading, both ways: the bytes are the text of the numbers read, and of no others; where nothing is
+-- read, they are the text of none.
 abbrev pub Reads : ℕ → List ℕ → Option (List ℕ) → Type 0
-Reads k bytes (Some ns) = (length ns ≡ k) × Small ns × (bytes ≡ line-text ns)
-Reads k bytes None = (ns : List ℕ) → length ns ≡ k → Small ns → bytes ≡ line-text ns → ⊥
+Reads k bytes (Some ns) = Is-line k ns bytes × ((ms : List ℕ) → Is-line k ms bytes → ms ≡ ns)
+Reads k bytes None = (ns : List ℕ) → Is-line k ns bytes → ⊥
