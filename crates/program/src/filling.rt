@@ -12,6 +12,7 @@ use super::reading::parse;
 use super::refusals::Refusal;
 use super::rows::Counts;
 use super::rows::Instruction;
+use super::rows::MOST_ROWS;
 use super::rows::Row;
 use super::tables::Table;
 use std::alloc::AllocError;
@@ -41,7 +42,7 @@ impl Table {
     pub fn empty(heap: Global) -> Result<Table, AllocError>
         ensures { λ r. ⌜ made r (λ t. program t ≡ nothing) ⌝ }
     {
-        let rows = Vec::with_capacity(heap, 128)?;
+        let rows = Vec::with_capacity(heap, MOST_ROWS)?;
         let counts = Counts {
             processes: 0,
             variables: 0,
@@ -72,7 +73,7 @@ impl Table {
         ensures value { λ r. ⌜ (r, program (now (self .exit))) ≡ taken-in (program (now (self .entry))) (read (now (text .entry))) ⌝ }
         ensures words { λ r. ⌜ Says-of (now (text .entry)) r (program (now (self .exit))) ⌝ }
     {
-        let mut rows = [BLANK; 128];
+        let mut rows = [BLANK; MOST_ROWS];
         let parsed = parse(text, &mut rows)?;
         let count = parsed.count;
         self.hold(parsed, &rows[0..count]);

@@ -11,6 +11,10 @@ use super::decoding::is_within;
 use super::refusals::Refusal;
 use super::rows::Counts;
 use super::rows::Instruction;
+use super::rows::LINE;
+use super::rows::MOST_LABELS;
+use super::rows::MOST_LINES;
+use super::rows::MOST_ROWS;
 use super::rows::Row;
 use text::read_line;
 
@@ -44,7 +48,7 @@ fn may_follow(counts: Counts, process: u8, label: u8, next: u16, at: u16) -> boo
 {
     let same = process >= 1 && next == u16::from(process) && at == u16::from(label) + 1;
     let new = next == u16::from(process) + 1 && at == 1;
-    (same || new) && next <= u16::from(counts.processes) && at <= 32
+    (same || new) && next <= u16::from(counts.processes) && at <= MOST_LABELS
 }
 
 // One line as the row below a process and a label, where so many rows name each process.
@@ -101,7 +105,7 @@ fn fill(
     counts: Counts,
     labels: [u8; 5],
     lines: &[[u16; 6]],
-    rows: &mut [Row; 128],
+    rows: &mut [Row; MOST_ROWS],
 ) -> Result<(), Refusal>
     requires { ⌜ length (now lines) ≤ 128 ⌝ ∗ ⌜ counts .processes ≤ 4 ⌝ ∗ ⌜ Counted labels (named (now lines)) ⌝ }
     ensures { λ r. ⌜ then-do r (λ _. Ok (take (length (now (lines .entry))) (now (rows .exit)))) ≡ rows-read counts (named (now (lines .entry))) 0 0 2 (now (lines .entry)) ⌝ }
@@ -153,21 +157,21 @@ fn count_lines(text: &[u8]) -> Result<usize, Refusal>
     ensures value { λ r. ⌜ r ≡ line-count (now (text .entry)) ⌝ }
     ensures bound { λ r. ⌜ made r (λ n. (2 ≤ n) × (n ≤ 129) × (25 * n ≡ length (now (text .entry)))) ⌝ }
 {
-    let count = text.len() / 25;
-    if text.len() % 25 == 0 && count >= 2 && count <= 129 {
+    let count = text.len() / LINE;
+    if text.len() % LINE == 0 && count >= 2 && count <= MOST_LINES {
         return Ok(count);
     }
     Err(Refusal::Length)
 }
 
 // The numbers of each line of a text.
-fn split(text: &[u8], into: &mut [[u16; 6]; 129]) -> Result<usize, Refusal>
+fn split(text: &[u8], into: &mut [[u16; 6]; MOST_LINES]) -> Result<usize, Refusal>
     ensures value { λ r. ⌜ then-do r (λ n. Ok (take n (now (into .exit)))) ≡ lines-read (now (text .entry)) ⌝ }
     ensures bound { λ r. ⌜ made r (λ n. (2 ≤ n) × (n ≤ 129)) ⌝ }
 {
     let count = count_lines(text)?;
     for i in 0..count {
-        let Some(numbers) = read_line::<6>(&text[25 * i..25 * i + 25]) else {
+        let Some(numbers) = read_line::<6>(&text[LINE * i..LINE * i + LINE]) else {
             return Err(Refusal::Field {
                 line: (i + 1) as u8,
             });
@@ -186,12 +190,12 @@ pub(crate) struct Parsed {
 }
 
 // Reads a table's text into the front of the rows.
-pub(crate) fn parse(text: &[u8], rows: &mut [Row; 128]) -> Result<Parsed, Refusal>
+pub(crate) fn parse(text: &[u8], rows: &mut [Row; MOST_ROWS]) -> Result<Parsed, Refusal>
     ensures value { λ r. ⌜ then-do r (λ t. Ok (record { counts = t .counts; rows = take (t .count) (now (rows .exit)) })) ≡ read (now (text .entry)) ⌝ }
     ensures bound { λ r. ⌜ made r (λ t. t .count ≤ 128) ⌝ }
     ensures labels { λ r. ⌜ made r (λ t. Counted (t .labels) (labels-of (take (t .count) (now (rows .exit))))) ⌝ }
 {
-    let mut lines = [[0; 6]; 129];
+    let mut lines = [[0; 6]; MOST_LINES];
     let count = split(text, &mut lines)?;
     let counts = header(lines[0], count - 1)?;
     let labels = tally(&lines[1..count]);

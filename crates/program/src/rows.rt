@@ -1,3 +1,12 @@
+// How many bytes a line of a table's text has.
+pub(crate) const LINE: usize = 25;
+// The most rows of a table, its most lines with the header, and the most labels of a process.
+pub(crate) const MOST_ROWS: usize = 128;
+
+pub(crate) const MOST_LINES: usize = 129;
+
+pub(crate) const MOST_LABELS: u16 = 32;
+
 // What a process does at one label; each case has its own operands. Registers, variables and labels
 // count from 1.
 #[derive(Clone, Copy, Debug, PartialEq, Eq)]

@@ -10,6 +10,7 @@ ghost use Rattle.program.specs.Reading.{read};
 ghost use Rattle.program.specs.Tables.{program, lines-of, text-of, table-written};
 use super::refusals::Short;
 use super::rows::Instruction;
+use super::rows::LINE;
 use super::rows::Row;
 use super::tables::Table;
 use text::write_line;
@@ -95,12 +96,12 @@ impl Table {
         ensures back { λ _. ⌜ (is-nothing (program (now (self .entry))) ≡ false → read (text-of (program (now (self .entry)))) ≡ Ok (program (now (self .entry)))) ⌝ }
     {
         let count = self.line_count();
-        let needed = 25 * count;
+        let needed = LINE * count;
         if out.len() < needed {
             return Err(Short { needed });
         }
         for i in 0..count {
-            put(self.line(i), 25 * i, out);
+            put(self.line(i), LINE * i, out);
         }
         Ok(needed)
     }
