@@ -21,14 +21,14 @@ use Rattle.program.specs.Faults.{Lines, Faulty}
 use Rattle.program.specs.Program.{Six, lines-text, within}
 use Rattle.program.specs.Reading.{line-count, lines, numbers, header-read, header-fits, counts-of}
 use Rattle.program.proofs.Lines.{line-is}
-use Rattle.program.proofs.Outcomes.{cons-err, or-ok, or-err, cond-err, ok-not-err, not-both}
+use Rattle.program.proofs.Outcomes.{cons-err, or-ok, or-err, cond-err, not-both}
 use Rattle.program.proofs.Texts.{line-count-back, header-back}
 
 -- no allowed number of lines is that long
 pub no-lines : (text : List ℕ) (f : Refusal) → line-count text ≡ Err f → Faulty text f
 no-lines text f e = elim (cond-err (eqb (length text % 25) 0 && within 2 129 (length text / 25)) (Ok (length text / 25)) Length f e) [
   | inl t ↦ subst (Faulty text) (t .1) (λ n h. not-both f n (sym e ∙ line-count-back text n (h .0) (h .1) (h .2)))
-  | inr t ↦ ok-not-err (length text / 25) f (t .1)
+  | inr t ↦ not-both f (length text / 25) (sym (t .1))
 ]
 
 -- some lines from the front, and one more
@@ -48,7 +48,7 @@ record Stops (n i : ℕ) (text : List ℕ) (f : Refusal) : Type 0 where
   none : line-numbers 6 (take 25 (drop (25 * length before) text)) ≡ None
 
 stops : (n i : ℕ) (text : List ℕ) (f : Refusal) → numbers i (lines n text) ≡ Err f → Stops n i text f
-stops zero i text f e = ok-not-err [] f e
+stops zero i text f e = not-both f [] (sym e)
 stops (suc n) i text f e = elim (cons-err (okOr (line-numbers 6 (take 25 text)) (Field i)) (numbers (i + 1) (lines n (drop 25 text))) f e) [
   | inl first ↦
       let t = or-err (line-numbers 6 (take 25 text)) (Field i) f first in
@@ -98,5 +98,5 @@ no-header text h fs f six are low high e = elim (cond-err (header-fits h (length
     some = (low, high);
     wrong = λ c fit is. not-both f c (sym e ∙ ap (λ (x : List ℕ). header-read x (length fs)) is ∙ header-back c (length fs) fit low high);
   })
-  | inr t ↦ ok-not-err (counts-of h) f (t .1)
+  | inr t ↦ not-both f (counts-of h) (sym (t .1))
 ]

@@ -21,11 +21,11 @@ use Rattle.program.specs.Faults.{Headed, Reached, Judged, Faulty, process-at, 
 use Rattle.program.specs.Program.{Six, row-fields, instruction-fields, operands-fit, follows, rows-fit, is-term}
 use Rattle.program.specs.Reading.{instruction-of, row-with, row-read, rows-read, ends-read, named}
 use Rattle.program.proofs.Instructions.{instruction-back}
-use Rattle.program.proofs.Outcomes.{cons-err, cond-err, cond-then, ok-not-err}
+use Rattle.program.proofs.Outcomes.{cons-err, cond-err, cond-then, not-both}
 use Rattle.program.proofs.RowTexts.{row-is}
 
 with-err : (i p l : ℕ) (o : Option Instruction) (e : Refusal) → row-with i p l o ≡ Err e → (o ≡ None) × (Operand i ≡ e)
-with-err i p l (Some x) e h = ok-not-err (record { process = p; label = l; instruction = x }) e h
+with-err i p l (Some x) e h = not-both e (record { process = p; label = l; instruction = x }) (sym h)
 with-err i p l None e h = (refl, cc)
 
 module _ (c : Counts) (L : ℕ → ℕ) where
@@ -60,7 +60,7 @@ module _ (c : Counts) (L : ℕ → ℕ) where
   why-later p l i e r rows f (inr t) = let n : (i + 1) + length rows ≡ i + suc (length rows) = omega arith in inr (t .0 ∙ ap Operand n, t .1, t .2)
 
   breaks : (p l i : ℕ) (fs : List (List ℕ)) (e : Refusal) → All Six fs → rows-read c L p l i fs ≡ Err e → Breaks p l i fs e
-  breaks p l i [] e six h = ok-not-err [] e h
+  breaks p l i [] e six h = not-both e [] (sym h)
   breaks p l i (f ∷ fs) e six h = elim (cons-err (row-read c L p l i f) (rows-read c L (getD f 0 0) (getD f 1 0) (i + 1) fs) e h) [
     | inl first ↦ record { rows = []; line = f; rest = fs; are = refl; right = refl; why = why-first p l i f e first }
     | inr more ↦
@@ -127,7 +127,7 @@ why-next P i n e row rest (inl t) = let k : (i + 1) + n ≡ i + suc n = omega ar
 why-next P i n e row rest (inr t) = let k : (i + 1) + n ≡ i + suc n = omega arith in inr (t .0 ∙ ap NoProcess k, t .1, t .2, t .3)
 
 opens : (P i : ℕ) (rows : List Row) (e : Refusal) → ends-read P i rows ≡ Err e → Open P i rows e
-opens P i [] e h = ok-not-err tt e h
+opens P i [] e h = not-both e tt (sym h)
 opens P i (r ∷ []) e h =
     let n : i ≡ i + 0 = omega arith in
     elim (cond-err (is-term (r .instruction)) (cond (ltb (r .process) P) (Err (NoProcess i)) (Ok tt)) (NoTerm i) e h) [

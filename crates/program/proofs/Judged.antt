@@ -4,7 +4,6 @@ use mathlib.Core.Bool.{Bool, true, false, cond}
 use mathlib.Core.Logic.{inl, inr}
 use mathlib.Core.List.{List, [], _∷_, _++_}
 use Prim.Native.Nat.{ℕ, _+_, _<_, _≤_}
-use native.Mathlib.Omega.{arith}
 use lib.Dec.{eqb}
 use lib.ListN.{length, getD, drop}
 use Rattle.std.proofs.shelf.Lists.{drop-more}
@@ -15,7 +14,7 @@ use Rattle.std.specs.declared.option.Option.the-variants.{Some, None}
 use Rattle.std.specs.declared.result.Result.{Result}
 use Rattle.std.specs.declared.result.Result.the-variants.{Ok, Err}
 use Rattle.program.specs.declared.refusals.Refusal.{Refusal}
-use Rattle.program.specs.declared.refusals.Refusal.the-variants.{Order}
+use Rattle.program.specs.declared.refusals.Refusal.the-variants.{Order, Operand}
 use Rattle.program.specs.declared.rows.Row.{Row}
 use Rattle.program.specs.declared.rows.Counts.{Counts}
 use Rattle.program.specs.declared.rows.Instruction.{Instruction}
@@ -23,16 +22,16 @@ use Rattle.program.specs.Program.{follows, labels-of}
 use Rattle.program.specs.Reading.{cons-to, instruction-of, row-with, row-read, rows-read, named}
 use Rattle.program.proofs.Follows.{follows-means}
 use Rattle.program.proofs.Fronts.{front, front-push}
-use Rattle.program.proofs.Outcomes.{cons-ok}
+use Rattle.program.proofs.Outcomes.{cons-ok, not-both}
 
 -- an accepted row has the process and the label of its line
 with-place : (i p l : ℕ) (o : Option Instruction) (r : Row) → row-with i p l o ≡ Ok r → (r .process ≡ p) × (r .label ≡ l)
 with-place i p l (Some x) r e = (let s : r ≡ record { process = p; label = l; instruction = x } = cc in ap (λ (y : Row). y .process) s, let s : r ≡ record { process = p; label = l; instruction = x } = cc in ap (λ (y : Row). y .label) s)
-with-place i p l None r e = let z : _≡_ {A = ℕ} 0 1 = cc in let y : ⊥ = omega arith in elim y [ ]
+with-place i p l None r e = not-both (Operand i) r e
 
 placed-by : (b : Bool) (i p l : ℕ) (o : Option Instruction) (r : Row) → cond b (row-with i p l o) (Err (Order i)) ≡ Ok r → (r .process ≡ p) × (r .label ≡ l)
 placed-by true i p l o r e = with-place i p l o r e
-placed-by false i p l o r e = let z : _≡_ {A = ℕ} 0 1 = cc in let y : ⊥ = omega arith in elim y [ ]
+placed-by false i p l o r e = not-both (Order i) r e
 
 module _ (c : Counts) where
   module _ (L : ℕ → ℕ) where

@@ -13,7 +13,7 @@ use Rattle.std.specs.declared.result.Result.{Result}
 use Rattle.std.specs.declared.result.Result.the-variants.{Ok, Err}
 use Rattle.std.specs.shelf.Lists.{All}
 use Rattle.program.specs.declared.refusals.Refusal.{Refusal}
-use Rattle.program.specs.declared.refusals.Refusal.the-variants.{Order, NoTerm, NoProcess}
+use Rattle.program.specs.declared.refusals.Refusal.the-variants.{Order, Operand, NoTerm, NoProcess}
 use Rattle.program.specs.declared.rows.Row.{Row}
 use Rattle.program.specs.declared.rows.Counts.{Counts}
 use Rattle.program.specs.declared.rows.Instruction.{Instruction}
@@ -21,7 +21,7 @@ use Rattle.program.specs.Program.{row-fields, instruction-fields, operands-fit
 use Rattle.program.specs.Reading.{cons-to, instruction-of, row-with, row-read, rows-read, ends-read}
 use Rattle.program.proofs.Follows.{next}
 use Rattle.program.proofs.Instructions.{instruction-back, instruction-is}
-use Rattle.program.proofs.Outcomes.{cons-ok, cond-ok, cond-else}
+use Rattle.program.proofs.Outcomes.{cons-ok, cond-ok, cond-else, not-both}
 
 -- six numbers, one by one
 pub six-are : (f : List ℕ) → length f ≡ 6 → f ≡ getD f 0 0 ∷ (getD f 1 0 ∷ (getD f 2 0 ∷ (getD f 3 0 ∷ (getD f 4 0 ∷ (getD f 5 0 ∷ [])))))
@@ -36,7 +36,7 @@ six-are (a ∷ (b ∷ (c ∷ (d ∷ (g ∷ (h ∷ (k ∷ fs))))))) e = let z : �
 
 with-is : (i p l : ℕ) (o : Option Instruction) (r : Row) → row-with i p l o ≡ Ok r → (x : Instruction) × (o ≡ Some x) × (r ≡ record { process = p; label = l; instruction = x })
 with-is i p l (Some x) r e = (x, refl, cc)
-with-is i p l None r e = let z : _≡_ {A = ℕ} 0 1 = cc in let y : ⊥ = omega arith in elim y [ ]
+with-is i p l None r e = not-both (Operand i) r e
 
 module _ (c : Counts) (L : ℕ → ℕ) where
   -- what a row that was read keeps

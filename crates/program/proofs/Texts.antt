@@ -22,7 +22,7 @@ use Rattle.program.specs.Reading.{then-do, line-count, lines, numbers, lines-r
 use Rattle.program.proofs.Blocks.{tested}
 use Rattle.program.proofs.Judged.{named-rows}
 use Rattle.program.proofs.Lines.{numbers-are, numbers-back, length-lines}
-use Rattle.program.proofs.Outcomes.{then-ok, cond-ok}
+use Rattle.program.proofs.Outcomes.{then-ok, cond-ok, not-both}
 use Rattle.program.proofs.Smalls.{rows-small, header-small}
 use Rattle.program.proofs.RowTexts.{six-are, rows-are, rows-back, ends-are, ends-back}
 
@@ -57,7 +57,7 @@ line-count-is text n e =
 
 -- the numbers of all lines
 table-is : (fs : List (List ℕ)) (p : Program) → All Six fs → table-read fs ≡ Ok p → (proper p ≡ true) × (fs ≡ table-fields p)
-table-is [] p six e = let z : _≡_ {A = ℕ} 0 1 = cc in let y : ⊥ = omega arith in elim y [ ]
+table-is [] p six e = not-both Length p e
 table-is (h ∷ fs) p six e =
     let a = then-ok (header-read h (length fs)) (λ c. body-read c fs) p e in
     let c = a .0 in

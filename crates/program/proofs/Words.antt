@@ -18,19 +18,18 @@ use Rattle.program.proofs.Blocks.{blocks, proper-source}
 use Rattle.program.proofs.Faulted.{no-lines, no-numbers, no-header}
 use Rattle.program.proofs.FaultedRows.{no-row, no-end}
 use Rattle.program.proofs.Lines.{numbers-are}
-use Rattle.program.proofs.Outcomes.{not-both, ok-not-err, then-err, then-ok}
+use Rattle.program.proofs.Outcomes.{not-both, then-err, then-ok}
 use Rattle.program.proofs.RowTexts.{rows-are}
 use Rattle.program.proofs.Texts.{header-is, line-count-is, read-is, read-back}
 
 -- a proper program's text is read as that program
 is-read : (text : List ℕ) (q : Program) → Text-of q text → read text ≡ Ok q
-is-read text q t = ap read (t .3) ∙ read-back q (ap proper (t .2) ∙ proper-source (t .0) (t .1))
+is-read text q t = ap read (t .1) ∙ read-back q (ap proper (t .0 .2) ∙ proper-source (t .0 .0) (t .0 .1))
 
 accepted : (text : List ℕ) (p : Program) → read text ≡ Ok p → Accepted text p
 accepted text p e =
     let r = read-is text p e in
-    let b = blocks p (r .0) in
-    record { text-of = (b .0, b .1, b .2, r .1); only = λ q t. let other = is-read text q t in cc }
+    record { text-of = (blocks p (r .0), r .1); only = λ q t. let other = is-read text q t in cc }
 
 refused : (text : List ℕ) (f : Refusal) → read text ≡ Err f → (q : Program) → Text-of q text → ⊥
 refused text f e q t = not-both f q (sym e ∙ is-read text q t)
@@ -52,7 +51,7 @@ refused-table text (h ∷ fs) f six are low high e = elim (then-err (header-read
             let judged : Judged text c rows = record { headed = subst (Headed text c) (fit .1) headed; right = ap (λ (gs : List (List ℕ)). rows-fit c (named gs) 0 0 rows) (sym (fit .1)) ∙ fit .0 } in
             elim (then-err (ends-read (c .processes) 2 rows) (λ _. Ok (record { counts = c; rows = rows })) f (b .2)) [
               | inl d ↦ no-end text c rows f judged d
-              | inr d ↦ ok-not-err (record { counts = c; rows = rows }) f (d .2)
+              | inr d ↦ not-both f (record { counts = c; rows = rows }) (sym (d .2))
             ]
       ]
 ]

@@ -54,9 +54,13 @@ pub record Proper (s : Source) : Type 0 where
   pub rows : length (listed 1 (s .processes)) ≤ 128
   pub each : All (Code (counts-in s)) (s .processes)
 
--- The text is that of a program with all the properties, and that program is p.
+-- p is a program with all the properties
+abbrev pub Well-made : Program → Type 0
+Well-made p = (s : Source) × Proper s × (p ≡ program-of s)
+
+-- The text is that of such a program, p.
 abbrev pub Text-of : Program → List ℕ → Type 0
-Text-of p text = (s : Source) × Proper s × (p ≡ program-of s) × (text ≡ table-text p)
+Text-of p text = Well-made p × (text ≡ table-text p)
 
 -- An accepted text is that of one program with all the properties, p, and of no other.
 pub record Accepted (text : List ℕ) (p : Program) : Type 0 where

@@ -1,6 +1,7 @@
 ghost use mathlib.Core.Path.{_≡_};
 ghost use mathlib.Core.Bool.{true, false};
 ghost use Rattle.program.specs.Program.{is-nothing, proper, labels-of, instruction-at};
+ghost use Rattle.program.specs.Source.{Well-made};
 ghost use Rattle.program.specs.Tables.{program, Fits-at};
 use super::rows::Counts;
 use super::rows::Instruction;
@@ -12,6 +13,7 @@ impl Table {
     pub fn is_empty(&self) -> bool
         ensures value { λ r. ⌜ r ≡ is-nothing (program (now (self .entry))) ⌝ }
         ensures keeps { λ r. ⌜ (r ≡ false → proper (program (now (self .entry))) ≡ true) ⌝ }
+        ensures words { λ r. ⌜ (r ≡ false → Well-made (program (now (self .entry)))) ⌝ }
     {
         self.rows.is_empty()
     }
