@@ -1,6 +1,8 @@
 // How high a ceiling a question needs: what release-acquire memory reaches in n steps with timestamps of any
 // size, it reaches under the ceiling n.
 
+#![tactic(auto)]
+
 ghost use Rattle.memory.specs.Shapes.{Shaped};
 ghost use Rattle.ceiling.specs.Ceiling.{Enough};
 

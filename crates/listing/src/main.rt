@@ -1,5 +1,7 @@
 // Prints the table on standard input as a programmer would read it, or why it is refused.
 
+#![tactic(auto)]
+
 mod refusals;
 mod tables;
 

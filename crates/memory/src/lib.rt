@@ -1,6 +1,8 @@
 // What a memory is, and three of them: sequential, release-acquire, and a layer that does fences over any
 // memory.
 
+#![tactic(auto)]
+
 pub mod actions;
 mod driving;
 pub mod fences;

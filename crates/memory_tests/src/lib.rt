@@ -1,6 +1,8 @@
 // Tests of the crate `memory` from outside: each rule and each refusal. They stand apart so that the
 // library is not proved again for them.
 
+#![tactic(auto)]
+
 #[cfg(test)]
 mod tests {
     use memory::{Action, Fences, Memory, ReleaseAcquire, Sequential, Shape, Take, drive};

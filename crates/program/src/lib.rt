@@ -1,5 +1,7 @@
 // A table: a small concurrent program, read from its text, checked and held.
 
+#![tactic(auto)]
+
 mod access;
 mod decoding;
 mod filling;

@@ -1,6 +1,8 @@
 // Tests of the crate `program` from outside: each refusal, the shortest and the longest table, every
 // instruction. They stand apart so that the library is not proved again for them.
 
+#![tactic(auto)]
+
 #[cfg(test)]
 mod tests {
     use program::{Instruction, Table};

@@ -1,5 +1,7 @@
 // Performs the actions on standard input over a memory, and prints what came of each.
 
+#![tactic(auto)]
+
 mod acting;
 mod answering;
 mod asking;

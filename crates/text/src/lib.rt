@@ -1,3 +1,5 @@
+#![tactic(auto)]
+
 ghost use Rattle.std.specs.Prelude.{◌≡◌, ◌<◌};
 ghost use Rattle.text.specs.Lines.{digit_text, is_digit, field_number, line_numbers, Reads, all_small};
 ghost use Rattle.text.specs.Writing.{written};

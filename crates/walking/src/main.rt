@@ -1,6 +1,8 @@
 // Walks through release-acquire memory under the highest ceiling, by reads, writes and swaps equally often,
 // and tells what came of it.
 
+#![tactic(auto)]
+
 ghost use Rattle.std.specs.Prelude.{◌≤◌};
 
 use memory::{Action, Memory, ReleaseAcquire, Seen, Shape};

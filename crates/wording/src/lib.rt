@@ -1,5 +1,7 @@
 // Words that the programs print.
 
+#![tactic(auto)]
+
 ghost use Rattle.std.specs.Prelude.{◌≡◌, Some};
 ghost use Rattle.wording.specs.Amounts.{amount_words};
 

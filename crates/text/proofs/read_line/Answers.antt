@@ -18,11 +18,11 @@ returns-then-bytes-ne10 g c =
 pub loop-i-init : goal.loop-i-init
 loop-i-init g c = (both_none g.row.N c.args.bytes.now, length-replicate g.row.N 0)
 
-pub returns-in-default : goal.returns-in-default
-returns-in-default g c =
+pub returns-in_default : goal.returns-in_default
+returns-in_default g c =
     let bytes = c.args.bytes.now in
     let l : length bytes ≡ 4 * g.row.N + 1 = omega arith in
-    let v = both_stop g.row.N c.loop-i.i bytes c.loop-i.numbers l c.loop-i-test.true c.in-default.ensures ∙ c.loop-i.invariant.0 in
+    let v = both_stop g.row.N c.loop-i.i bytes c.loop-i.numbers l c.loop-i-test.true c.in_default.ensures ∙ c.loop-i.invariant.0 in
     record { value = v; words = same_reads _ _ None v }
 
 pub loop-i-preserved : goal.loop-i-preserved

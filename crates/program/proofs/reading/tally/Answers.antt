@@ -7,8 +7,8 @@ use Rattle.program.proofs.Tallies.{counted_more, counted_else}
 use Rattle.program.proofs.reading.tally.Goals as goal
 use Rattle.program.proofs.reading.tally.Goals.{then-process-lt5, else-process-lt5}
 
-pub overflow-add-labels : goal.overflow-add-labels
-overflow-add-labels c =
+pub overflow_add-labels : goal.overflow_add-labels
+overflow_add-labels c =
     let q = c.from-process.result in
     let few : named (take c.loop-line.line-index c.args.lines.now) q ≤ length (take c.loop-line.line-index c.args.lines.now) = count_by-le-length (λ (f : List ℕ). eqb (get_or f 0 0) q) (take c.loop-line.line-index c.args.lines.now) in
     omega (arith, few, length-take c.loop-line.line-index c.args.lines.now, c.loop-line.invariant.1 q c.if-process-lt5.true)

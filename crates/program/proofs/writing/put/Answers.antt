@@ -8,4 +8,4 @@ returns c =
     let xs = c.args.out.now in
     let at = c.args.at in
     let six : length ns ≡ 6 = omega arith in
-    put_is ns xs at six c.requires.1 c.write-line.new.out (line_over ns (take (length xs - at) (drop at xs)) c.write-line.result c.write-line.new.out c.requires.0 (part_long ns xs at six c.requires.1) c.write-line.ensures)
+    put_is ns xs at six c.requires.1 c.write_line.new.out (line_over ns (take (length xs - at) (drop at xs)) c.write_line.result c.write_line.new.out c.requires.0 (part_long ns xs at six c.requires.1) c.write_line.ensures)

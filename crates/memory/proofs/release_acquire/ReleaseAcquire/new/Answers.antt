@@ -8,6 +8,6 @@ pub returns : goal.returns
 returns c =
     record {
       start = ap (λ (s : Store). record { shape = c.args.shape; store = s })
-          (started c.args.shape _ c.first-messages-messages.result refl c.first-messages-messages.ensures);
+          (started c.args.shape _ c.first_messages-messages.result refl c.first_messages-messages.ensures);
       always = always_timely;
     }

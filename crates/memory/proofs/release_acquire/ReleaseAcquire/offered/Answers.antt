@@ -6,8 +6,8 @@ use Rattle.memory.proofs.Walks.{counted_yes, counted_no}
 use Rattle.memory.proofs.release_acquire.ReleaseAcquire.offered.Goals as goal
 use Rattle.memory.proofs.release_acquire.ReleaseAcquire.offered.Goals.{then-admits, else-admits}
 
-pub overflow-add-count : goal.overflow-add-count
-overflow-add-count c =
+pub overflow_add-count : goal.overflow_add-count
+overflow_add-count c =
     let test : ℕ → Bool = admitted (config c.args.self.now) c.args.process c.args.action in
     omega (arith, few test c.loop-at.at, c.loop-at.invariant)
 

@@ -8,6 +8,6 @@ use Rattle.program.proofs.tables.Table.is_empty.Goals as goal
 pub returns : goal.returns
 returns c =
     let t = c.args.self.now in
-    let value : c.is-empty.result ≡ is_nothing (program t) = c.is-empty.ensures ∙ ap (λ (n : ℕ). eqb n 0) t.rows.ok.0 in
-    let good : c.is-empty.result ≡ false → proper (program t) ≡ true = λ e. kept_proper (program t) t.keeps (sym value ∙ e) in
+    let value : c.is_empty.result ≡ is_nothing (program t) = c.is_empty.ensures ∙ ap (λ (n : ℕ). eqb n 0) t.rows.ok.0 in
+    let good : c.is_empty.result ≡ false → proper (program t) ≡ true = λ e. kept_proper (program t) t.keeps (sym value ∙ e) in
     record { value = value; keeps = good; words = λ e. blocks (program t) (good e) }

@@ -7,8 +7,8 @@ use Rattle.program.proofs.tables.Table.labels.Goals as goal
 pub returns-then-process-gt4 : goal.returns-then-process-gt4
 returns-then-process-gt4 c = sym (past_last (program c.args.self.now) c.args.self.now.keeps c.args.process c.if-process-gt4.true)
 
-pub overflow-sub-result : goal.overflow-sub-result
-overflow-sub-result c =
+pub overflow_sub-result : goal.overflow_sub-result
+overflow_sub-result c =
     let low : c.from-at.result ≤ 4 = omega arith in
     starts_rise c.args.self.now.starts (vec_items c.args.self.now.rows) c.args.self.now.placed c.from-at.result low
 

@@ -13,4 +13,4 @@ pub returns-then-i-gt0 : goal.returns-then-i-gt0
 returns-then-i-gt0 c =
     let t = c.args.self.now in
     let at = (row_line (program t) t.keeps c.args.i c.if-i-gt0.true c.requires).1 c.index.result.now in
-    c.row-numbers.ensures ∙ ap row_fields c.index.ensures ∙ sym at
+    c.row_numbers.ensures ∙ ap row_fields c.index.ensures ∙ sym at

@@ -11,7 +11,7 @@ pub returns : goal.returns
 returns c =
     let t = c.args.self.now in
     let p = program t in
-    let some : is_nothing p ≡ false = ap (λ (n : ℕ). eqb n 0) (sym t.rows.ok.0) ∙ sym c.if-is-empty.ensures in
+    let some : is_nothing p ≡ false = ap (λ (n : ℕ). eqb n 0) (sym t.rows.ok.0) ∙ sym c.if-is_empty.ensures in
     let good = tested p (kept_proper p t.keeps some) in
     let lines = ap length (lines_some p t.keeps some) in
     record {

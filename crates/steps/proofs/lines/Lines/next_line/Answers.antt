@@ -4,30 +4,30 @@ use Rattle.std.proofs.lemmas.Bool.{false≢true}
 use Rattle.steps.proofs.Turns.{none_left, turn_less, turn_empty, turn_full}
 use Rattle.steps.proofs.lines.Lines.next_line.Goals as goal
 
-pub invariant-of-self : goal.invariant-of-self
-invariant-of-self c =
-    let k = turn_less c.loop-text.self.rest.now c.cut.result.0.now c.cut.result.1.now c.after-end-self.result.now
-    c.loop-text-test.ensures c.cut.ensures.before c.cut.ensures.after c.after-end-self.ensures in
+pub invariant_of-self : goal.invariant_of-self
+invariant_of-self c =
+    let k = turn_less c.loop-text.self.rest.now c.cut.result.0.now c.cut.result.1.now c.after_end-self.result.now
+    c.loop-text-test.ensures c.cut.ensures.before c.cut.ensures.after c.after_end-self.ensures in
     (omega arith, tt)
 
-pub returns-then-not-is-empty : goal.returns-then-not-is-empty
-returns-then-not-is-empty c = record {
-  lines = c.loop-text.invariant.0 ∙ turn_full c.loop-text.self.rest.now c.cut.result.0.now c.cut.result.1.now c.after-end-self.result.now
-      c.loop-text-test.ensures c.cut.ensures.before c.cut.ensures.after c.after-end-self.ensures
-      c.loop-text.self.passed c.if-not-is-empty.ensures;
+pub returns-then-not-is_empty : goal.returns-then-not-is_empty
+returns-then-not-is_empty c = record {
+  lines = c.loop-text.invariant.0 ∙ turn_full c.loop-text.self.rest.now c.cut.result.0.now c.cut.result.1.now c.after_end-self.result.now
+      c.loop-text-test.ensures c.cut.ensures.before c.cut.ensures.after c.after_end-self.ensures
+      c.loop-text.self.passed c.if-not-is_empty.ensures;
   passes = λ _. omega (arith, c.loop-text.invariant.1);
 }
 
 pub loop-text-smaller : goal.loop-text-smaller
 loop-text-smaller c =
-    turn_less c.loop-text.self.rest.now c.cut.result.0.now c.cut.result.1.now c.after-end-self.result.now
-    c.loop-text-test.ensures c.cut.ensures.before c.cut.ensures.after c.after-end-self.ensures
+    turn_less c.loop-text.self.rest.now c.cut.result.0.now c.cut.result.1.now c.after_end-self.result.now
+    c.loop-text-test.ensures c.cut.ensures.before c.cut.ensures.after c.after_end-self.ensures
 
 pub loop-text-preserved : goal.loop-text-preserved
 loop-text-preserved c = (
-  c.loop-text.invariant.0 ∙ turn_empty c.loop-text.self.rest.now c.cut.result.0.now c.cut.result.1.now c.after-end-self.result.now
-      c.loop-text-test.ensures c.cut.ensures.before c.cut.ensures.after c.after-end-self.ensures
-      c.loop-text.self.passed c.if-not-is-empty.ensures,
+  c.loop-text.invariant.0 ∙ turn_empty c.loop-text.self.rest.now c.cut.result.0.now c.cut.result.1.now c.after_end-self.result.now
+      c.loop-text-test.ensures c.cut.ensures.before c.cut.ensures.after c.after_end-self.ensures
+      c.loop-text.self.passed c.if-not-is_empty.ensures,
   omega (arith, c.loop-text.invariant.1),
 )
 
