@@ -10,8 +10,8 @@ use memory::{Memory, Take};
 
 // Takes a choice, if it is offered.
 fn request<M: Memory>(memory: &mut M, take: Take) -> Outcome
-    ensures outcome { result ≡ outcome_at M.Memory.machine (config memory.old) take }
-    ensures after { config memory.new ≡ config_after M.Memory.machine (config memory.old) take }
+    ensures outcome { result ≡ outcome_at M.machine (M.config memory.old) take }
+    ensures after { M.config memory.new ≡ config_after M.machine (M.config memory.old) take }
 {
     let offered = memory.offers(take.process, take.action);
     match memory.take(take.process, take.action, take.choice) {
@@ -26,8 +26,8 @@ fn request<M: Memory>(memory: &mut M, take: Take) -> Outcome
 
 // Does what the line asks for.
 pub(crate) fn act<M: Memory>(memory: &mut M, line: &[u8]) -> Outcome
-    ensures outcome { result ≡ outcome_of M.Memory.machine (config memory.old) (take_of line.now) }
-    ensures after { config memory.new ≡ config_of M.Memory.machine (config memory.old) (take_of line.now) }
+    ensures outcome { result ≡ outcome_of M.machine (M.config memory.old) (take_of line.now) }
+    ensures after { M.config memory.new ≡ config_of M.machine (M.config memory.old) (take_of line.now) }
 {
     match read_take(line) {
         Ok(take) => request(memory, take),

@@ -18,7 +18,7 @@ pub(crate) fn perform<M: Memory>(
     heap: Global,
     lines: &mut Lines,
 ) -> Result<String, AllocError>
-    ensures { IfOk result (λ s. string_bytes s ≡ performing M.Memory.machine (config memory.old) no_tally (left_of lines.old)) }
+    ensures { IfOk result (λ s. string_bytes s ≡ performing M.machine (M.config memory.old) no_tally (left_of lines.old)) }
 {
     let mut told = String::new(heap);
     let mut tally = Tally::none();

@@ -14,7 +14,7 @@ loop-turn-preserved c =
     let before : Outcomes = record { accepted = c.loop-turn.accepted; refused = c.loop-turn.refused; last = c.loop-turn.last } in
     let step =
     λ (said : Result (Unit {0}) Refusal) (now : (said, next) ≡ taken_in held (read c.args.text.now)).
-    one_more (program c.args.table.now) held next before (read c.args.text.now) said c.loop-turn.-turn c.loop-turn.invariant.2 now
+    one_more (program c.args.table.now) held next before (read c.args.text.now) said c.loop-turn._turn c.loop-turn.invariant.2 now
     in
     elim c.match-read.branch [
       | in-Ok w ↦ (omega (arith, w.accepted-is), omega (arith, w.refused-is), rw (w.accepted-is, w.refused-is, w.last-is) (step (Ok tt) w.in-Ok.ensures.value))

@@ -8,7 +8,7 @@ pub invariant_of-self : goal.invariant_of-self
 invariant_of-self c =
     let k = turn_less c.loop-text.self.rest.now c.cut.result.0.now c.cut.result.1.now c.after_end-self.result.now
     c.loop-text-test.ensures c.cut.ensures.before c.cut.ensures.after c.after_end-self.ensures in
-    (omega arith, tt)
+    record { few = omega arith }
 
 pub returns-then-not-is_empty : goal.returns-then-not-is_empty
 returns-then-not-is_empty c = record {
