@@ -4,7 +4,7 @@ use Rattle.memory.specs.declared.actions.Action.{Action}
 use Rattle.memory.specs.declared.actions.Action.TheVariants.{Write, Swap}
 use Rattle.memory.specs.declared.actions.Seen.{Seen}
 use Rattle.memory.specs.Machine.{Accepted}
-use Rattle.memory.specs.Rules.{View, message, raise, reads, changes, value, mark}
+use Rattle.memory.specs.Rules.{View, message, raise, reads, changes}
 use Rattle.memory.specs.ReleaseAcquire.{Config, step, machine}
 use Rattle.memory.specs.MessageTable.{posted, Found}
 

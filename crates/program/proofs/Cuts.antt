@@ -7,7 +7,7 @@ use Rattle.program.specs.declared.rows.Row.{Row}
 use Rattle.program.specs.declared.rows.Counts.{Counts}
 use Rattle.program.specs.declared.rows.Instruction.{Instruction}
 use Rattle.program.specs.declared.rows.Instruction.TheVariants.{Read, Write, Cas, Set, Add, Jeq, Assume, Fence, Term}
-use Rattle.program.specs.Program.{operands_fit, follows, is_term, rows_fit, ends_fit}
+use Rattle.program.specs.Program.{operands_fit, is_term, rows_fit, ends_fit}
 use Rattle.program.specs.Source.{numbered, listed}
 use Rattle.program.proofs.Follows.{next}
 

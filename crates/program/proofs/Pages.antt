@@ -10,7 +10,6 @@ use Rattle.text.specs.declared.Unwritten.TheVariants as unwritten
 use Rattle.text.specs.Lines.{line_text, all_small}
 use Rattle.text.specs.Writing.{over, written}
 use Rattle.text.proofs.Lines.{length_line}
-use Rattle.program.specs.declared.refusals.Short.{Short}
 use Rattle.program.specs.declared.rows.Row.{Row}
 use Rattle.program.specs.Program.{Program, row_fields, table_fields, lines_text, is_nothing, kept, Six}
 use Rattle.program.specs.Reading.{read}
