@@ -1,6 +1,6 @@
 -- A proper table is that of a list of processes, and the other way round.
 use Rattle.std.proofs.Common.{◌≡◌, ℕ, ◌+◌, ◌≤◌, true, ◌&&◌, leb, List, [], ◌∷◌, length, sym, refl, ap, ◌∙◌, subst, arith}
-use Rattle.std.specs.List.{AllByRecursion as All}
+use Rattle.std.specs.List.{AllByRecursion}
 use Rattle.std.proofs.lemmas.Bool.{and_parts, and_from, leb-true, le-leb}
 use Rattle.std.proofs.lemmas.Bool.Decides.{nat_tests}
 use Rattle.program.specs.declared.rows.Row.{Row}
@@ -23,17 +23,17 @@ module _ (c : Counts) (L : ℕ → ℕ) where
   labels_after : (p : ℕ) (xs : List Instruction) (rest : List (List Instruction)) → OwnLabels p (xs ∷ rest) → OwnLabels (p + 1) rest
   labels_after p xs rest h q low = h q (omega arith) ∙ labels_later p xs rest q (omega arith)
 
-  code : (p : ℕ) (processes : List (List Instruction)) → OwnLabels p processes → Fitting c L p processes → All (Code c) processes
+  code : (p : ℕ) (processes : List (List Instruction)) → OwnLabels p processes → Fitting c L p processes → AllByRecursion (Code c) processes
   code p [] labels h = tt
   code p (xs ∷ rest) labels h =
       let own = h.0 in
-      (record { few = own.few; in_range = subst (λ (n : ℕ). All (λ x. operands_fit c n x ≡ true) xs) (labels_here p xs rest labels) own.in_range; ends_in_term = own.ends }, code (p + 1) rest (labels_after p xs rest labels) h.1)
+      (record { few = own.few; in_range = subst (λ (n : ℕ). AllByRecursion (λ x. operands_fit c n x ≡ true) xs) (labels_here p xs rest labels) own.in_range; ends_in_term = own.ends }, code (p + 1) rest (labels_after p xs rest labels) h.1)
 
-  fitting : (p : ℕ) (processes : List (List Instruction)) → OwnLabels p processes → All (Code c) processes → Fitting c L p processes
+  fitting : (p : ℕ) (processes : List (List Instruction)) → OwnLabels p processes → AllByRecursion (Code c) processes → Fitting c L p processes
   fitting p [] labels h = tt
   fitting p (xs ∷ rest) labels h =
       let own = h.0 in
-      (record { few = own.few; in_range = subst (λ (n : ℕ). All (λ x. operands_fit c n x ≡ true) xs) (sym (labels_here p xs rest labels)) own.in_range; ends = own.ends_in_term }, fitting (p + 1) rest (labels_after p xs rest labels) h.1)
+      (record { few = own.few; in_range = subst (λ (n : ℕ). AllByRecursion (λ x. operands_fit c n x ≡ true) xs) (sym (labels_here p xs rest labels)) own.in_range; ends = own.ends_in_term }, fitting (p + 1) rest (labels_after p xs rest labels) h.1)
 
 -- the tests of a proper table, one by one
 pub record Tested (c : Counts) (rows : List Row) : Type 0 where
@@ -58,7 +58,7 @@ source c rows t found =
     let all : c.processes ≡ length s.processes = omega arith in
     let same : c ≡ counts_in s = ap (λ (n : ℕ). record { processes = n; variables = c.variables; registers = c.registers; values = c.values }) all in
     let are : rows ≡ listed 1 s.processes = found.rows_are in
-    let each : All (Code c) s.processes = code c (labels_of rows) 1 s.processes (λ q low. ap (λ (r : List Row). labels_of r q) are) found.fitting in (
+    let each : AllByRecursion (Code c) s.processes = code c (labels_of rows) 1 s.processes (λ q low. ap (λ (r : List Row). labels_of r q) are) found.fitting in (
       s,
       record {
         processes = (grind (arith, nat_tests), grind (arith, nat_tests));
@@ -66,7 +66,7 @@ source c rows t found =
         registers = (grind (arith, nat_tests), grind (arith, nat_tests));
         values = (grind (arith, nat_tests), grind (arith, nat_tests));
         rows = subst (λ (r : List Row). length r ≤ 128) are t.short;
-        each = subst (λ (k : Counts). All (Code k) s.processes) same each;
+        each = subst (λ (k : Counts). AllByRecursion (Code k) s.processes) same each;
       },
       ap (λ (k : Counts). record { counts = k; rows = rows }) same ∙ ap (λ (r : List Row). record { counts = counts_in s; rows = r }) are,
     )

@@ -1,6 +1,6 @@
 -- The rows of a table, cut into those of each process.
 use Rattle.std.proofs.Common.{◌≡◌, ℕ, ◌+◌, ◌≤◌, true, ◌||◌, eqb, leb, List, [], ◌∷◌, ◌++◌, length, sym, refl, subst₂, inl, inr, arith}
-use Rattle.std.specs.List.{AllByRecursion as All}
+use Rattle.std.specs.List.{AllByRecursion}
 use Rattle.std.proofs.lemmas.Bool.{and_parts, leb-true}
 use Rattle.std.proofs.lemmas.Bool.Decides.{nat_tests}
 use Rattle.program.specs.declared.rows.Row.{Row}
@@ -31,7 +31,7 @@ term_only Term e = refl
 -- what a process keeps whose jumps are judged by n labels
 pub record Fit (c : Counts) (n : ℕ) (xs : List Instruction) : Type 0 where
   pub few : length xs ≤ 32
-  pub in_range : All (λ x. operands_fit c n x ≡ true) xs
+  pub in_range : AllByRecursion (λ x. operands_fit c n x ≡ true) xs
   pub ends : Ends xs
 
 module _ (c : Counts) (L : ℕ → ℕ) where
@@ -54,7 +54,7 @@ module _ (c : Counts) (L : ℕ → ℕ) where
     after : List Row
     rows_are : rows ≡ numbered p (l + 1) others ++ after
     few : l + length others ≤ 32
-    in_range : All (λ y. operands_fit c (L p) y ≡ true) others
+    in_range : AllByRecursion (λ y. operands_fit c (L p) y ≡ true) others
     ends : Ends (x ∷ others)
     parts : Parts (p + 1) after
 

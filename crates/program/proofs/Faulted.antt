@@ -2,7 +2,7 @@
 use Rattle.std.proofs.Common.{◌≡◌, ℕ, zero, suc, ◌+◌, ◌*◌, ◌/◌, ◌%◌, ◌<◌, ◌≤◌, ◌&&◌, eqb, List, [], ◌∷◌, ◌++◌, length, take, drop, Some, None, Ok, Err, sym, refl, ap, ◌∙◌, subst, ap₂, inl, inr, arith, take-add}
 use Rattle.std.proofs.lemmas.List.{drop-drop}
 use Rattle.std.specs.Option.{ok_or}
-use Rattle.std.specs.List.{AllByRecursion as All}
+use Rattle.std.specs.List.{AllByRecursion}
 use Rattle.text.specs.Lines.{line_text, line_numbers}
 use Rattle.text.proofs.Lines.{line_read_back}
 use Rattle.program.specs.declared.refusals.Refusal.{Refusal}
@@ -31,7 +31,7 @@ drop_next n xs = let e : 25 * suc n ≡ 25 + 25 * n = omega arith in ap (λ (k :
 -- the lines that are numbers, up to the first that is not
 record Stops (n i : ℕ) (text : List ℕ) (f : Refusal) : Type 0 where
   before : List (List ℕ)
-  six : All Six before
+  six : AllByRecursion Six before
   are : take (25 * length before) text ≡ lines_text before
   place : f ≡ Field (i + length before)
   low : length before < n
@@ -78,7 +78,7 @@ no_numbers text n f long e =
       wrong = λ g six is. not_numbers (take 25 (drop (25 * length s.before) text)) g s.none six is;
     })
 
-pub no_header : (text h : List ℕ) (fs : List (List ℕ)) (f : Refusal) → All Six (h ∷ fs) → text ≡ lines_text (h ∷ fs) → 1 ≤ length fs → length fs ≤ 128 → header_read h (length fs) ≡ Err f → Faulty text f
+pub no_header : (text h : List ℕ) (fs : List (List ℕ)) (f : Refusal) → AllByRecursion Six (h ∷ fs) → text ≡ lines_text (h ∷ fs) → 1 ≤ length fs → length fs ≤ 128 → header_read h (length fs) ≡ Err f → Faulty text f
 no_header text h fs f six are low high e = elim (cond_err (header_fits h (length fs)) (Ok (counts_of h)) Header f e) [
   | inl t ↦ subst (Faulty text) t.1 (record {
     first = h;

@@ -1,7 +1,7 @@
 -- What is refused is wrong in the way that the refusal says: the rows.
 use Rattle.std.proofs.Common.{◌≡◌, ℕ, suc, ◌+◌, ◌<◌, Bool, true, false, cond, ◌&&◌, ◌||◌, eqb, ltb, ◌⊎◌, List, [], ◌∷◌, ◌++◌, map, length, get_or, Some, None, Ok, Err, Option, sym, refl, ap, ◌∙◌, subst, ap₂, inl, inr, arith}
 use Rattle.std.proofs.lemmas.Bool.{and_from, or_parts, eqb-false, ltb-true}
-use Rattle.std.specs.List.{AllByRecursion as All}
+use Rattle.std.specs.List.{AllByRecursion}
 use Rattle.program.specs.declared.refusals.Refusal.{Refusal}
 use Rattle.program.specs.declared.refusals.Refusal.TheVariants.{Order, Operand, NoTerm, NoProcess}
 use Rattle.program.specs.declared.rows.Row.{Row}
@@ -49,7 +49,7 @@ module _ (c : Counts) (L : ℕ → ℕ) where
   why_later p l i e r rows f (inl t) = let n : (i + 1) + length rows ≡ i + suc (length rows) = omega arith in inl (t.0 ∙ ap Order n, t.1)
   why_later p l i e r rows f (inr t) = let n : (i + 1) + length rows ≡ i + suc (length rows) = omega arith in inr (t.0 ∙ ap Operand n, t.1, t.2)
 
-  breaks : (p l i : ℕ) (fs : List (List ℕ)) (e : Refusal) → All Six fs → rows_read c L p l i fs ≡ Err e → Breaks p l i fs e
+  breaks : (p l i : ℕ) (fs : List (List ℕ)) (e : Refusal) → AllByRecursion Six fs → rows_read c L p l i fs ≡ Err e → Breaks p l i fs e
   breaks p l i [] e six h = not_both e [] (sym h)
   breaks p l i (f ∷ fs) e six h = elim (cons_err (row_read c L p l i f) (rows_read c L (get_or f 0 0) (get_or f 1 0) (i + 1) fs) e h) [
     | inl first ↦ record { rows = []; line = f; rest = fs; are = refl; right = refl; why = why_first p l i f e first }

@@ -1,6 +1,6 @@
 -- The rows of a list of processes follow one another, and each process ends in TERM.
 use Rattle.std.proofs.Common.{◌≡◌, ℕ, ◌+◌, ◌≤◌, true, ◌||◌, eqb, leb, List, [], ◌∷◌, ◌++◌, length, refl, ap, arith}
-use Rattle.std.specs.List.{AllByRecursion as All}
+use Rattle.std.specs.List.{AllByRecursion}
 use Rattle.std.proofs.lemmas.Bool.{and_from, or_left, or_right, le-leb, eq-eqb}
 use Rattle.std.proofs.lemmas.Bool.Decides.{nat_tests}
 use Rattle.program.specs.declared.rows.Row.{Row}
@@ -26,7 +26,7 @@ ends_rest x y xs (z ∷ front, e) = (front, cc)
 
 module _ (c : Counts) (L : ℕ → ℕ) where
   -- what comes after a process may stand below any of its labels, since it begins a new process
-  rows_numbered : (p l : ℕ) (xs : List Instruction) (after : List Row) → 1 ≤ p → p ≤ c.processes → l + length xs ≤ 32 → All (λ x. operands_fit c (L p) x ≡ true) xs → ((m : ℕ) → rows_fit c L p m after ≡ true) → rows_fit c L p l (numbered p (l + 1) xs ++ after) ≡ true
+  rows_numbered : (p l : ℕ) (xs : List Instruction) (after : List Row) → 1 ≤ p → p ≤ c.processes → l + length xs ≤ 32 → AllByRecursion (λ x. operands_fit c (L p) x ≡ true) xs → ((m : ℕ) → rows_fit c L p m after ≡ true) → rows_fit c L p l (numbered p (l + 1) xs ++ after) ≡ true
   rows_numbered p l [] after first last few fits then = then l
   rows_numbered p l (x ∷ xs) after first last few fits then =
       let here : follows c p l p (l + 1) ≡ true = grind (arith, nat_tests) in

@@ -4,7 +4,7 @@ use borrow.Rule.Slice.PartMut.{put_mid}
 use Rattle.std.proofs.ByRecursion.{All-take}
 use Rattle.std.proofs.lemmas.List.{length-take-le, length-drop, length-map, get_or-map, take_at, drop_at, drop-drop, drop_all, take_more, take_all, take_rest}
 use Rattle.std.proofs.lemmas.Bool.{cases_Bool, le-leb, lt-leb}
-use Rattle.std.specs.List.{AllByRecursion as All}
+use Rattle.std.specs.List.{AllByRecursion}
 use Rattle.text.specs.declared.Unwritten.{Unwritten}
 use Rattle.text.specs.declared.Unwritten.TheVariants as unwritten
 use Rattle.text.specs.Lines.{line_text, all_small}
@@ -44,7 +44,7 @@ lines_push [] f = append-nil (line_text f)
 lines_push (g ∷ fs) f = ap (λ (z : List ℕ). line_text g ++ z) (lines_push fs f) ∙ sym (append_assoc (line_text g) (lines_text fs) (line_text f))
 
 -- one line more
-module _ (fs : List (List ℕ)) (six : All Six fs) (o out : List ℕ) (i : ℕ) (low : i < length fs) (so_far : out ≡ lines_text (take i fs) ++ drop (25 * i) o) where
+module _ (fs : List (List ℕ)) (six : AllByRecursion Six fs) (o out : List ℕ) (i : ℕ) (low : i < length fs) (so_far : out ≡ lines_text (take i fs) ++ drop (25 * i) o) where
   front_long : length (lines_text (take i fs)) ≡ 25 * i
   front_long = length_lines (take i fs) (All-take Six i fs six) ∙ ap (λ (n : ℕ). 25 * n) (length-take-le i fs (omega arith))
 
@@ -65,10 +65,10 @@ module _ (p : Program) (keeps : kept p ≡ true) where
   lines_none : is_nothing p ≡ true → lines_of p ≡ []
   lines_none e = ap (λ (b : Bool). cond b [] (table_fields p)) e
 
-  pub lines_six : All Six (lines_of p)
+  pub lines_six : AllByRecursion Six (lines_of p)
   lines_six = elim (cases_Bool (is_nothing p)) [
-    | inl e ↦ subst (All Six) (sym (lines_none e)) tt
-    | inr e ↦ subst (All Six) (sym (lines_some e)) (fields_six p (kept_proper p keeps e))
+    | inl e ↦ subst (AllByRecursion Six) (sym (lines_none e)) tt
+    | inr e ↦ subst (AllByRecursion Six) (sym (lines_some e)) (fields_six p (kept_proper p keeps e))
   ]
 
   pub text_back : is_nothing p ≡ false → read (text_of p) ≡ Ok p

@@ -1,7 +1,7 @@
 -- Rows that are read are those whose numbers the lines have, and they fit; rows that fit are read back.
 use Rattle.std.proofs.Common.{◌≡◌, ℕ, ◌+◌, ◌≤◌, Bool, true, cond, ◌&&◌, ◌||◌, eqb, ltb, leb, List, [], ◌∷◌, map, length, get_or, Some, None, Ok, Err, Option, Result, sym, refl, ap, ◌∙◌, subst, ap₂, arith}
 use Rattle.std.proofs.lemmas.Bool.{and_parts, and_from, le-ltb, le-leb, leb-true, ltb-false}
-use Rattle.std.specs.List.{AllByRecursion as All}
+use Rattle.std.specs.List.{AllByRecursion}
 use Rattle.program.specs.declared.refusals.Refusal.{Refusal}
 use Rattle.program.specs.declared.refusals.Refusal.TheVariants.{Order, Operand, NoTerm, NoProcess}
 use Rattle.program.specs.declared.rows.Row.{Row}
@@ -42,7 +42,7 @@ module _ (c : Counts) (L : ℕ → ℕ) where
       let whole : f ≡ get_or f 0 0 ∷ (get_or f 1 0 ∷ instruction_fields x) = six_are f six ∙ ap (λ (s : List ℕ). get_or f 0 0 ∷ (get_or f 1 0 ∷ s)) k.0 in
       subst (Fits p l f) (sym w.2) (t.0, k.1, whole)
 
-  pub rows_are : (p l i : ℕ) (fs : List (List ℕ)) (rows : List Row) → All Six fs → rows_read c L p l i fs ≡ Ok rows → (rows_fit c L p l rows ≡ true) × (fs ≡ map row_fields rows)
+  pub rows_are : (p l i : ℕ) (fs : List (List ℕ)) (rows : List Row) → AllByRecursion Six fs → rows_read c L p l i fs ≡ Ok rows → (rows_fit c L p l rows ≡ true) × (fs ≡ map row_fields rows)
   rows_are p l i [] rows six e =
       let none : [] ≡ rows = cc in
       subst (λ (z : List Row). (rows_fit c L p l z ≡ true) × ([] ≡ map row_fields z)) none (refl, refl)

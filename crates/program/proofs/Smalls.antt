@@ -1,7 +1,7 @@
 -- The numbers of a proper table fit their fields.
 use Rattle.std.proofs.Common.{◌≡◌, ℕ, suc, ◌≤◌, true, ◌&&◌, leb, List, [], ◌∷◌, map, length, refl, ap, arith}
 use Rattle.std.proofs.lemmas.Bool.{and_parts, leb-true, ltb-true}
-use Rattle.std.specs.List.{AllByRecursion as All}
+use Rattle.std.specs.List.{AllByRecursion}
 use Rattle.text.specs.Lines.{Small}
 use Rattle.program.specs.declared.rows.Row.{Row}
 use Rattle.program.specs.declared.rows.Counts.{Counts}
@@ -60,7 +60,7 @@ module _ (c : Counts) (fit : counts_fit c ≡ true) where
     instruction_small Term e = four (omega arith) (omega arith) (omega arith) (omega arith)
 
   -- every row of a table is a line of six such numbers
-  pub rows_small : (L : ℕ → ℕ) → ((q : ℕ) → L q ≤ 128) → (p l : ℕ) (rows : List Row) → rows_fit c L p l rows ≡ true → All Six (map row_fields rows)
+  pub rows_small : (L : ℕ → ℕ) → ((q : ℕ) → L q ≤ 128) → (p l : ℕ) (rows : List Row) → rows_fit c L p l rows ≡ true → AllByRecursion Six (map row_fields rows)
   rows_small L few p l [] e = tt
   rows_small L few p l (r ∷ rows) e =
       let n = next c L p l r rows e in

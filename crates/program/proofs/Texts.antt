@@ -4,7 +4,7 @@ use mathlib.Core.Path.{fun_ext}
 use Rattle.std.proofs.lemmas.List.{length-map}
 use Rattle.std.proofs.lemmas.List.Sums.{count_by-le-length}
 use Rattle.std.proofs.lemmas.Bool.{and_parts, and_from, eqb-true, eq-eqb, leb-true, le-leb}
-use Rattle.std.specs.List.{AllByRecursion as All}
+use Rattle.std.specs.List.{AllByRecursion}
 use Rattle.program.specs.declared.refusals.Refusal.{Refusal}
 use Rattle.program.specs.declared.refusals.Refusal.TheVariants.{Length, Header}
 use Rattle.program.specs.declared.rows.Row.{Row}
@@ -49,7 +49,7 @@ line_count_is text n e =
     (omega arith, omega (arith, leb-true 2 (length text / 25) v.0), omega (arith, leb-true (length text / 25) 129 v.1))
 
 -- the numbers of all lines
-table_is : (fs : List (List ℕ)) (p : Program) → All Six fs → table_read fs ≡ Ok p → (proper p ≡ true) × (fs ≡ table_fields p)
+table_is : (fs : List (List ℕ)) (p : Program) → AllByRecursion Six fs → table_read fs ≡ Ok p → (proper p ≡ true) × (fs ≡ table_fields p)
 table_is [] p six e = not_both Length p e
 table_is (h ∷ fs) p six e =
     let a = then_ok (header_read h (length fs)) (λ c. body_read c fs) p e in
@@ -100,7 +100,7 @@ ends_some P [] e = let z : ◌≡◌ {A = ℕ} 0 1 = cc in let y : ⊥ = omega a
 ends_some P (r ∷ rows) e = omega arith
 
 -- the lines of a proper table are six numbers each
-pub fields_six : (p : Program) → proper p ≡ true → All Six (table_fields p)
+pub fields_six : (p : Program) → proper p ≡ true → AllByRecursion Six (table_fields p)
 fields_six p e =
     let t = tested p e in
     let few : (q : ℕ) → labels_of p.rows q ≤ 128 = λ q. omega (arith, t.short, count_by-le-length (λ (r : Row). eqb r.process q) p.rows) in

@@ -1,7 +1,7 @@
 -- A text is accepted exactly when it is that of a program with all the properties.
 use Rattle.std.proofs.Common.{◌≡◌, ℕ, ◌≤◌, List, [], ◌∷◌, length, Ok, Err, Result, sym, refl, ap, ◌∙◌, subst, inl, inr, arith}
 use Rattle.program.specs.declared.refusals.Refusal.{Refusal}
-use Rattle.std.specs.List.{AllByRecursion as All}
+use Rattle.std.specs.List.{AllByRecursion}
 use Rattle.program.specs.Faults.{Faulty, Headed, Judged}
 use Rattle.program.specs.Program.{Program, Six, lines_text, proper, rows_fit}
 use Rattle.program.specs.Reading.{then_do, line_count, lines, numbers, lines_read, header_read, named, rows_read, ends_read, body_read, table_read, read}
@@ -28,7 +28,7 @@ refused : (text : List ℕ) (f : Refusal) → read text ≡ Err f → (q : Progr
 refused text f e q t = not_both f q (sym e ∙ is_read text q t)
 
 -- what was refused is wrong in the way that the refusal says
-refused_table : (text : List ℕ) (fs : List (List ℕ)) (f : Refusal) → All Six fs → text ≡ lines_text fs → 2 ≤ length fs → length fs ≤ 129 → table_read fs ≡ Err f → Faulty text f
+refused_table : (text : List ℕ) (fs : List (List ℕ)) (f : Refusal) → AllByRecursion Six fs → text ≡ lines_text fs → 2 ≤ length fs → length fs ≤ 129 → table_read fs ≡ Err f → Faulty text f
 refused_table text [] f six are low high e = let z : ⊥ = omega arith in elim z [ ]
 refused_table text (h ∷ fs) f six are low high e = elim (then_err (header_read h (length fs)) (λ c. body_read c fs) f e) [
   | inl t ↦ no_header text h fs f six are (omega arith) (omega arith) t

@@ -1,7 +1,7 @@
 -- What a refusal says of the text, in a reader's words: everything that is looked at before is right,
 -- and this is wrong.
 use Rattle.std.specs.Prelude.{◌≡◌, ℕ, ◌+◌, ◌*◌, ◌<◌, ◌≤◌, Bool, true, false, ◌&&◌, ◌||◌, List, [], ◌∷◌, ◌++◌, map, length, take, drop, ◌==◌, ◌≢◌, slice_index}
-use Rattle.std.specs.List.{AllByRecursion as All}
+use Rattle.std.specs.List.{AllByRecursion}
 use Rattle.text.specs.Lines.{line_text}
 use Rattle.program.specs.declared.refusals.Refusal.{Refusal}
 use Rattle.program.specs.declared.refusals.Refusal.TheVariants.{Length, Field, Header, Order, Operand, NoTerm, NoProcess}
@@ -20,7 +20,7 @@ pub record WrongField (text : List ℕ) (i : ℕ) : Type 0 where
   pub count : ℕ
   pub long : Lines text count
   pub before : List (List ℕ)
-  pub numbers : All Six before
+  pub numbers : AllByRecursion Six before
   pub are : take (25 * length before) text ≡ lines_text before
   pub place : i ≡ length before + 1
   pub there : i ≤ count
@@ -30,7 +30,7 @@ pub record WrongField (text : List ℕ) (i : ℕ) : Type 0 where
 pub record WrongHeader (text : List ℕ) : Type 0 where
   pub first : List ℕ
   pub others : List (List ℕ)
-  pub numbers : All Six (first ∷ others)
+  pub numbers : AllByRecursion Six (first ∷ others)
   pub are : text ≡ lines_text (first ∷ others)
   pub some : (1 ≤ length others) × (length others ≤ 128)
   pub wrong : (c : Counts) → counts_fit c ≡ true → first ≢ header_fields c (length others)
@@ -39,7 +39,7 @@ pub record WrongHeader (text : List ℕ) : Type 0 where
 pub record Headed (text : List ℕ) (c : Counts) (fs : List (List ℕ)) : Type 0 where
   pub fit : counts_fit c ≡ true
   pub some : (1 ≤ length fs) × (length fs ≤ 128)
-  pub numbers : All Six fs
+  pub numbers : AllByRecursion Six fs
   pub are : text ≡ lines_text (header_fields c (length fs) ∷ fs)
 
 -- the process and the label of the last row, or those given where there is none

@@ -1,7 +1,7 @@
 -- A program in a reader's terms: the processes, each the list of its instructions, whose labels count
 -- from 1. Nothing here speaks of lines, fields or an order of checks.
 use Rattle.std.specs.Prelude.{◌≡◌, ℕ, ◌+◌, ◌≤◌, true, List, [], ◌∷◌, ◌++◌, length, Ok, Err, Result}
-use Rattle.std.specs.List.{AllByRecursion as All}
+use Rattle.std.specs.List.{AllByRecursion}
 use Rattle.program.specs.declared.refusals.Refusal.{Refusal}
 use Rattle.program.specs.declared.rows.Row.{Row}
 use Rattle.program.specs.declared.rows.Counts.{Counts}
@@ -36,7 +36,7 @@ program_of s = record { counts = counts_in s; rows = listed 1 s.processes }
 -- what a process keeps: at most 32 labels, operands in range, TERM at the last label
 pub record Code (c : Counts) (xs : List Instruction) : Type 0 where
   pub few : length xs ≤ 32
-  pub in_range : All (λ x. operands_fit c (length xs) x ≡ true) xs
+  pub in_range : AllByRecursion (λ x. operands_fit c (length xs) x ≡ true) xs
   pub ends_in_term : (front : List Instruction) × (xs ≡ front ++ (Term ∷ []))
 
 -- what a program keeps
@@ -46,7 +46,7 @@ pub record Proper (s : Source) : Type 0 where
   pub registers : (1 ≤ s.registers) × (s.registers ≤ 4)
   pub values : (2 ≤ s.values) × (s.values ≤ 8)
   pub rows : length (listed 1 s.processes) ≤ 128
-  pub each : All (Code (counts_in s)) s.processes
+  pub each : AllByRecursion (Code (counts_in s)) s.processes
 
 -- p is a program with all the properties
 abbrev pub WellMade : Program → Type 0
