@@ -1,5 +1,5 @@
 -- From the start, no timestamp passes the ceiling, and each message knows its own.
-use Rattle.std.specs.Prelude.{◌≡◌, ℕ, ◌+◌, ◌≤◌, Bool, true, false, cond, ◌&&◌, List, [], ◌∷◌, Some, None, Ok, Err, Option, Result, ◌==◌, nat_le, slice_index_or, refl}
+use Rattle.std.specs.Prelude.{◌≡◌, ℕ, ◌+◌, ◌≤◌, Bool, true, false, cond, ◌&&◌, List, [], ◌∷◌, Some, None, Ok, Err, Option, Result, ◌==◌, nat_le, slice_index, refl}
 use Rattle.std.proofs.Common.{sym, ap, subst, ◌∙◌, arith}
 use Rattle.std.proofs.lemmas.Bool.{cond-true, cond_both, and_parts, eqb-true, eq-eqb}
 use Rattle.memory.specs.declared.actions.Action.{Action}
@@ -94,7 +94,7 @@ taken_timely : (s : Config) → Timely s → (p : ℕ) (a : Action) (c : ℕ) (u
     → Taken machine s p a c u r → (u.shape ≡ s.shape) × Timely u
 taken_timely s timely p a c u (Ok seen) h =
     let k = picked (admitted s p a) (s.shape.ceiling + 1) c h.offered in
-    let t : ℕ = slice_index_or (choices s p a) c 0 in (
+    let t : ℕ = slice_index (choices s p a) c in (
       ap (λ (w : Config). w.shape) h.after,
       subst Timely (sym h.after) (kept s timely p a t (admits s p a t (omega (arith, k.1)) k.0)),
     )

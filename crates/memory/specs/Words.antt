@@ -1,5 +1,5 @@
 -- The release-acquire memory as its struct stands: what it answers is what the rules say.
-use Rattle.std.specs.Prelude.{◌≡◌, ℕ, ◌≤◌, Bool, true, ◌↔◌, List, length, Some, None, Ok, Err, Result, nat_le, slice_index, refl}
+use Rattle.std.specs.Prelude.{◌≡◌, ℕ, ◌+◌, ◌≤◌, Bool, true, ◌↔◌, List, length, Some, None, Ok, Err, Result, nat_le, slice_index, refl}
 use Rattle.std.proofs.Common.{sym, ap, subst, ◌∙◌, ⊎_elim, arith}
 use Rattle.std.proofs.lemmas.Bool.{cases_Bool, cases_lt, leb-true, cond-false}
 use Rattle.memory.specs.declared.actions.Action.{Action}
@@ -11,9 +11,10 @@ use Rattle.memory.specs.declared.shapes.Shape.{Shape}
 use Rattle.memory.specs.Shapes.{Inside}
 use Rattle.memory.specs.Machine.{Taken, Leads}
 use Rattle.memory.specs.Rules.{Message, Pool, Switches}
-use Rattle.memory.specs.ReleaseAcquire.{Config, initial, choices, machine}
+use Rattle.memory.specs.ReleaseAcquire.{Config, initial, admitted, choices, machine}
 use Rattle.memory.specs.Choices.{ByTheRules, Offers, Takes}
 use Rattle.memory.specs.MessageTable.{config, upto, pool_of}
+use Rattle.memory.specs.Passing.{few}
 use Rattle.memory.specs.Ruled.{ruled, switch_told}
 use Rattle.memory.specs.Timely.{always_timely}
 
@@ -52,6 +53,10 @@ takes_told r p a c u (Err f) h = record {
   beyond = h.beyond;
   same = h.same;
 }
+
+-- the timestamps up to the highest ceiling are 25
+pub at_most : (s : Config) (p : ℕ) (a : Action) → length (choices s p a) ≤ 25
+at_most s p a = omega (arith, few (admitted s p a) (s.shape.ceiling + 1), s.shape.low)
 
 -- no timestamp is allowed to a process or for a variable outside the shape
 nothing : (s : Config) (p : ℕ) (a : Action) → ByTheRules s p a (choices s p a) → (Inside s.shape p a → ⊥)

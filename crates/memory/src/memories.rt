@@ -40,7 +40,7 @@ pub trait Memory {
     fn take(&mut self, process: u8, action: Action, choice: usize) -> Result<Seen, NotOffered>
         ensures outcome { Taken machine (config self.old) process action choice (config self.new) result };
 
-    // No configuration offers more.
+    // No configuration offers more than the widest offer.
     ghost bounded: { (s : Config) (p : ℕ) (a : Action) → machine.offer s p a ≤ widest };
 
     ghost some: { 1 ≤ widest };

@@ -4,9 +4,8 @@ ghost use Rattle.memory.specs.Rules.{changes, reads, message as message_at};
 ghost use Rattle.memory.specs.ReleaseAcquire.{Config, initial, held, holds, may_read, may_write, may_swap, admitted, choices, step, machine};
 ghost use Rattle.memory.specs.Choices.{Offers, Takes, AlwaysTimely};
 ghost use Rattle.memory.specs.MessageTable.{view_of, slot_of, config, turned, posted, Sought};
-ghost use Rattle.std.proofs.Common.{arith, rules};
-ghost use Rattle.memory.specs.Passing;
 ghost use Rattle.memory.specs.Words;
+ghost use Rattle.std.proofs.Common.{rules};
 
 use super::actions::{Action, NotOffered, Seen};
 use super::memories::Memory;
@@ -250,7 +249,7 @@ impl Memory for ReleaseAcquire {
 
     ghost widest = { 25 };
 
-    ghost bounded = { λ s p a. omega (arith, Passing.few (admitted s p a) (s.shape.ceiling + 1), s.shape.low) };
+    ghost bounded = { Words.at_most };
 
     ghost some = { Prim.search rules };
 

@@ -1,5 +1,5 @@
 -- What a table says, its text, and what every table keeps.
-use Rattle.std.specs.Prelude.{◌≡◌, ℕ, ◌+◌, ◌<◌, Bool, true, false, cond, ◌&&◌, ◌||◌, ltb, List, [], ◌∷◌, ◌++◌, map, length, Some, None, count_by, Option, ◌==◌, nat_eq, nat_le, nat_lt, slice_index, slice_index_or}
+use Rattle.std.specs.Prelude.{◌≡◌, ℕ, ◌+◌, ◌<◌, Bool, true, false, cond, ◌&&◌, ◌||◌, List, [], ◌∷◌, ◌++◌, map, length, Some, None, count_by, Option, ◌==◌, nat_eq, nat_le, nat_lt, slice_index}
 use Rattle.text.specs.Lines.{line_text, Small}
 use Rattle.program.specs.declared.rows.Row.{Row}
 use Rattle.program.specs.declared.rows.Counts.{Counts}
@@ -84,7 +84,7 @@ Counted labels count = (q : ℕ) → q < 5 → slice_index labels q ≡ count q
 
 -- how many rows name a process below q
 abbrev pub rows_below : List Row → ℕ → ℕ
-rows_below rows q = count_by (λ (r : Row). ltb r.process q) rows
+rows_below rows q = count_by (λ (r : Row). nat_lt r.process q) rows
 
 -- process p' and label l' follow process p and label l, within the limits; before the first row stands process 0
 abbrev pub follows : Counts → ℕ → ℕ → ℕ → ℕ → Bool
@@ -140,10 +140,10 @@ starts_of rows = rows_below rows 0 ∷ (rows_below rows 1 ∷ (rows_below rows 2
 -- how many of the first none, one, two .. five
 abbrev pub sums : List ℕ → List ℕ
 sums labels =
-    let one = slice_index_or labels 0 0 in
-    let two = one + slice_index_or labels 1 0 in
-    let three = two + slice_index_or labels 2 0 in
-    let four = three + slice_index_or labels 3 0 in
+    let one = slice_index labels 0 in
+    let two = one + slice_index labels 1 in
+    let three = two + slice_index labels 2 in
+    let four = three + slice_index labels 3 in
     0 ∷ (one ∷ (two ∷ (three ∷ (four ∷ ((four + slice_index labels 4) ∷ [])))))
 
 -- the instruction in the row of a process and a label
