@@ -1,11 +1,11 @@
 -- Writing a line field by field.
-use Rattle.std.proofs.Common.{◌≡◌, ℕ, suc, ◌+◌, ◌-◌, ◌*◌, ◌%◌, ◌<◌, ◌≤◌, true, List, [], ◌∷◌, ◌++◌, length, get_or, take, drop, set, Ok, Err, sym, refl, ap, ◌∙◌, append_assoc, arith}
+use Rattle.std.proofs.Common.{◌≡◌, ℕ, ◌+◌, ◌*◌, ◌<◌, ◌≤◌, true, List, [], ◌∷◌, ◌++◌, length, get_or, take, drop, set, Ok, Err, sym, refl, ap, ◌∙◌, append_assoc, arith}
 use Rattle.std.specs.List.{flat_map}
-use Rattle.std.proofs.lemmas.List.{length-append, length-take-le, length-drop, take_at, drop_at, drop-drop, take_more, take_all, flat_map_more, set_at, drop_more}
-use Rattle.std.proofs.lemmas.List.Edits.{sets-eq}
+use Rattle.std.proofs.lemmas.List.{length-take-le, take_at, drop_at, drop-drop, take_more, take_all, flat_map_more, set_at, drop_more}
+use borrow.Rule.Slice.PartMut.{put_mid}
 use Rattle.std.proofs.lemmas.Bool.Decides.{nat_tests}
 use Rattle.text.specs.declared.Unwritten.TheVariants.{Short}
-use Rattle.text.specs.Lines.{digit_text, field_text, line_text, all_small}
+use Rattle.text.specs.Lines.{field_text, line_text, all_small}
 use Rattle.text.specs.Writing.{over, written}
 use Rattle.text.proofs.Lines.{length_line}
 
@@ -21,15 +21,6 @@ line_is : (ns : List ℕ) → flat_map field_text ns ++ (10 ∷ []) ≡ line_tex
 line_is [] = refl
 line_is (n ∷ ns) = ap (λ (bs : List ℕ). field_text n ++ bs) (line_is ns)
 
--- four bytes in a row
-put_four : (xs : List ℕ) (p a b c d : ℕ) → p + 4 ≤ length xs → set (set (set (set xs p a) (p + 1) b) (p + 2) c) (p + 3) d ≡ (take p xs ++ (a ∷ (b ∷ (c ∷ (d ∷ []))))) ++ drop (p + 4) xs
-put_four xs p a b c d h =
-    let i : p + 1 ≡ suc p = omega arith in
-    let j : p + 2 ≡ suc (suc p) = omega arith in
-    let k : p + 3 ≡ suc (suc (suc p)) = omega arith in
-    let e = sets-eq (a ∷ (b ∷ (c ∷ (d ∷ [])))) xs p h in
-    cc
-
 pub written_short : (ns out : List ℕ) → all_small ns ≡ true → length out ≤ 4 * length ns → (Err Short, out) ≡ written ns out
 written_short ns out s h = let e = length_line ns in grind (arith, nat_tests)
 
@@ -40,18 +31,16 @@ module _ (ns : List ℕ) (i : ℕ) (out xs : List ℕ) (so_far : xs ≡ filled n
   front : length (flat_map field_text (take i ns)) ≡ 4 * i
   front = length_fields (take i ns) ∙ ap (λ (m : ℕ). 4 * m) (length-take-le i ns within)
 
-  pub filled_more : (a b c : ℕ) → i < length ns → a ≡ digit_text (get_or ns i 0) 1000 → b ≡ digit_text (get_or ns i 0) 100 → c ≡ digit_text (get_or ns i 0) 10 → set (set (set (set xs (4 * i) a) (4 * i + 1) b) (4 * i + 2) c) (4 * i + 3) (48 + get_or ns i 0 % 10) ≡ filled ns (i + 1) out
-  filled_more a b c h p q r =
+  pub filled_more : (k : ℕ) (field : List ℕ) → i < length ns → k ≡ 4 → field ≡ field_text (get_or ns i 0) → put_mid (4 * i) k xs field ≡ filled ns (i + 1) out
+  filled_more k field h four e =
       let n = get_or ns i 0 in
       let before = flat_map field_text (take i ns) in
-      let l : length xs ≡ 4 * i + (length out - 4 * i) = ap length so_far ∙ length-append before (drop (4 * i) out) ∙ ap (λ (m : ℕ). m + length (drop (4 * i) out)) front ∙ ap (λ (m : ℕ). 4 * i + m) (length-drop (4 * i) out) in
-      let e = put_four xs (4 * i) a b c (48 + n % 10) (omega arith) in
       let t : take (4 * i) xs ≡ before = ap (take (4 * i)) so_far ∙ take_at before (drop (4 * i) out) (4 * i) front in
       let d : drop (4 * i) xs ≡ drop (4 * i) out = ap (drop (4 * i)) so_far ∙ drop_at before (drop (4 * i) out) (4 * i) front in
-      let f = drop-drop 4 (4 * i) xs in
       let g = drop-drop 4 (4 * i) out in
       let m : 4 * i + 4 ≡ 4 * (i + 1) = omega arith in
       let j : flat_map field_text (take (i + 1) ns) ≡ before ++ field_text n = ap (flat_map field_text) (take_more ns i 0 h) ∙ sym (flat_map_more field_text [] (take i ns) n) in
+      let a = append_assoc before (field_text n) (drop (4 * (i + 1)) out) in
       cc
 
   filled_all : length ns ≡ i → set xs (4 * length ns) 10 ≡ over (line_text ns) out

@@ -1,6 +1,7 @@
 -- Lines of fields. A field is a number from 0 to 9999 in four bytes, right-justified with spaces and
 -- without leading zeros. A line is its fields, one after another, and a byte 10.
-use Rattle.std.specs.Prelude.{◌≡◌, ℕ, zero, suc, ◌+◌, ◌-◌, ◌*◌, ◌/◌, ◌%◌, ◌≤◌, Bool, true, cond, not, ◌&&◌, List, [], ◌∷◌, ◌++◌, length, Some, None, Option, ◌==◌, nat_le, nat_lt}
+use Rattle.std.specs.Prelude.{◌≡◌, ℕ, zero, suc, ◌+◌, ◌-◌, ◌*◌, ◌/◌, ◌%◌, ◌≤◌, Bool, cond, not, ◌&&◌, List, [], ◌∷◌, ◌++◌, length, Some, None, Option, ◌==◌, nat_le, nat_lt}
+use Rattle.std.specs.List.{list_all}
 
 -- the byte of n at the digit of weight w: a space where n has no such digit
 abbrev pub digit_text : ℕ → ℕ → ℕ
@@ -20,8 +21,7 @@ Small (n ∷ ns) = (n ≤ 9999) × Small ns
 
 -- the same as a test
 abbrev pub all_small : List ℕ → Bool
-all_small [] = true
-all_small (n ∷ ns) = nat_le n 9999 && all_small ns
+all_small ns = list_all (λ n. nat_le n 9999) ns
 
 abbrev pub is_digit : ℕ → Bool
 is_digit b = nat_le 48 b && nat_le b 57

@@ -1,7 +1,7 @@
 #![tactic(auto)]
 
 ghost use Rattle.std.specs.Prelude.{◌≡◌, ◌<◌};
-ghost use Rattle.text.specs.Lines.{digit_text, is_digit, field_number, line_numbers, Reads, all_small};
+ghost use Rattle.text.specs.Lines.{digit_text, field_text, field_number, line_numbers, Reads, all_small};
 ghost use Rattle.text.specs.Writing.{written};
 
 // Lines of fields: four bytes for each number, and a byte 10 at the end.
@@ -18,46 +18,32 @@ pub enum Unwritten {
     Short,
 }
 
-fn is_digit(b: u8) -> bool
-    ensures { result ≡ is_digit b }
-{
-    b >= b'0' && b <= b'9'
-}
-
 // The number that four bytes are the text of: one, two, three or four digits after spaces.
 fn field(a: u8, b: u8, c: u8, d: u8) -> Option<u16>
     ensures { result ≡ field_number a b c d }
 {
-    if !is_digit(d) {
+    if !d.is_ascii_digit() {
         return None;
     }
     let ones = u16::from(d - b'0');
     if c == b' ' {
-        return if a == b' ' && b == b' ' {
-            Some(ones)
-        } else {
-            None
-        };
+        return (a == b' ' && b == b' ').then_some(ones);
     }
-    if !is_digit(c) {
+    if !c.is_ascii_digit() {
         return None;
     }
     let tens = u16::from(c - b'0') * 10 + ones;
     if b == b' ' {
-        return if a == b' ' && c > b'0' {
-            Some(tens)
-        } else {
-            None
-        };
+        return (a == b' ' && c > b'0').then_some(tens);
     }
-    if !is_digit(b) {
+    if !b.is_ascii_digit() {
         return None;
     }
     let hundreds = u16::from(b - b'0') * 100 + tens;
     if a == b' ' {
-        return if b > b'0' { Some(hundreds) } else { None };
+        return (b > b'0').then_some(hundreds);
     }
-    if is_digit(a) && a > b'0' {
+    if a.is_ascii_digit() && a > b'0' {
         Some(u16::from(a - b'0') * 1000 + hundreds)
     } else {
         None
@@ -69,25 +55,19 @@ pub fn read_line<const N: usize>(bytes: &[u8]) -> Option<[u16; N]>
     ensures value { result ≡ line_numbers N bytes.now }
     ensures words { Reads N bytes.now result }
 {
-    let count = bytes.len();
-    if count % 4 != 1 || count / 4 != N {
-        return None;
-    }
-    if bytes[4 * N] != b'\n' {
+    let (fields, end) = bytes.as_chunks::<4>();
+    if end != b"\n".as_slice() || fields.len() != N {
         return None;
     }
     let mut numbers = [0; N];
-    for i in 0..N {
-        let at = 4 * i;
-        let Some(n) = field(bytes[at], bytes[at + 1], bytes[at + 2], bytes[at + 3]) else {
-            return None;
-        };
-        numbers[i] = n;
+    for (i, &[a, b, c, d]) in fields.iter().enumerate() {
+        numbers[i] = field(a, b, c, d)?;
     }
     Some(numbers)
 }
 
-// The byte of a number at the digit of a weight.
+// The byte of a number at the digit of a weight. The casts here and below keep a digit whole, as is proved;
+// `try_from` would add a branch that no call takes.
 fn digit(n: u16, weight: u16) -> u8
     requires { 0 < weight }
     ensures { result ≡ digit_text n weight }
@@ -99,16 +79,23 @@ fn digit(n: u16, weight: u16) -> u8
     }
 }
 
+// The four bytes of a number.
+fn digits(n: u16) -> [u8; 4]
+    ensures { result ≡ field_text n }
+{
+    [
+        digit(n, 1000),
+        digit(n, 100),
+        digit(n, 10),
+        b'0' + (n % 10) as u8,
+    ]
+}
+
 // Whether every number fits a field.
 fn fit(numbers: &[u16]) -> bool
     ensures { result ≡ all_small numbers.now }
 {
-    for n in numbers {
-        if *n > LARGEST {
-            return false;
-        }
-    }
-    true
+    numbers.iter().all(|n| *n <= LARGEST)
 }
 
 // Writes the line of the numbers to the front of the buffer, and answers its length.
@@ -122,13 +109,8 @@ pub fn write_line(numbers: &[u16], out: &mut [u8]) -> Result<usize, Unwritten>
     if out.len() <= end {
         return Err(Unwritten::Short);
     }
-    for i in 0..numbers.len() {
-        let at = 4 * i;
-        let n = numbers[i];
-        out[at] = digit(n, 1000);
-        out[at + 1] = digit(n, 100);
-        out[at + 2] = digit(n, 10);
-        out[at + 3] = b'0' + (n % 10) as u8;
+    for (i, n) in numbers.iter().enumerate() {
+        out[4 * i..4 * i + 4].copy_from_slice(&digits(*n));
     }
     out[end] = b'\n';
     Ok(end + 1)

@@ -5,6 +5,7 @@
 
 ghost use Rattle.std.specs.Prelude.{◌≤◌};
 
+use intake::number_or;
 use memory::{Action, Memory, ReleaseAcquire, Seen, Shape};
 use std::{env, io};
 
@@ -15,7 +16,7 @@ const TURNS: u32 = 1000;
 const LENGTH: u32 = 60;
 
 // What a walk met: sums go on from 0 past the largest number.
-#[derive(Clone, Copy)]
+#[derive(Clone, Copy, Default)]
 struct Tally {
     // The choices offered, where the walk asks.
     offered: u32,
@@ -30,9 +31,7 @@ impl Tally {
     fn take(&mut self, seen: Seen) {
         self.taken = self.taken.wrapping_add(1);
         self.values = self.values.wrapping_add(u32::from(seen.value));
-        if seen.switch {
-            self.switches = self.switches.wrapping_add(1);
-        }
+        self.switches = self.switches.wrapping_add(u32::from(seen.switch));
     }
 }
 
@@ -45,7 +44,7 @@ fn next(seed: u32) -> u32 {
 fn bit(seed: u32, weight: u32) -> u8
     ensures { result ≤ 1 }
 {
-    if seed & weight == 0 { 0 } else { 1 }
+    u8::from(seed & weight != 0)
 }
 
 // One to four, by two bits of a number.
@@ -53,41 +52,34 @@ fn quarter(seed: u32, low: u32, high: u32) -> u8 {
     1 + bit(seed, low) + 2 * bit(seed, high)
 }
 
-// A read, a write or a swap, of a variable and with values that a number gives.
-fn action(kind: u32, seed: u32) -> Action {
+// A read, a write and a swap, of a variable and with values that a number gives.
+fn actions(seed: u32) -> [Action; 3] {
     let variable = quarter(seed, 1 << 12, 1 << 13);
     let value = bit(seed, 1 << 20);
-    match kind % 3 {
-        0 => Action::Read { variable },
-        1 => Action::Write { variable, value },
-        _ => Action::Swap {
+    [
+        Action::Read { variable },
+        Action::Write { variable, value },
+        Action::Swap {
             variable,
             old: value,
             new: bit(seed, 1 << 22),
         },
-    }
+    ]
 }
 
 // How many choices the three actions have together.
 fn ask<M: Memory>(memory: &M, process: u8, seed: u32) -> u32 {
     let mut sum = 0u32;
-    for kind in 0..3u32 {
-        let offered = memory.offers(process, action(kind, seed));
-        sum = sum.wrapping_add((offered & 0xff) as u32);
+    for action in actions(seed) {
+        sum = sum.wrapping_add(memory.offers(process, action) as u32);
     }
     sum
 }
 
 // So many turns over the shape. Each takes an action at its first or second choice, and asks
-// before how many choices there are, if the walk asks.
+// before how many choices there are, if the walk asks: a plain yes or no, which nothing else goes by.
 fn walk<M: Memory>(memory: &mut M, shape: Shape, turns: u32, asks: bool) -> Tally {
-    let mut tally = Tally {
-        offered: 0,
-        taken: 0,
-        refused: 0,
-        values: 0,
-        switches: 0,
-    };
+    let mut tally = Tally::default();
     let mut seed = 1;
     for turn in 0..turns {
         if turn % LENGTH == 0 {
@@ -98,7 +90,8 @@ fn walk<M: Memory>(memory: &mut M, shape: Shape, turns: u32, asks: bool) -> Tall
         if asks {
             tally.offered = tally.offered.wrapping_add(ask(memory, process, seed));
         }
-        match memory.take(process, action(turn, seed), usize::from(bit(seed, 1 << 16))) {
+        let action = actions(seed)[turn as usize % 3];
+        match memory.take(process, action, usize::from(bit(seed, 1 << 16))) {
             Ok(seen) => tally.take(seen),
             Err(_) => tally.refused = tally.refused.wrapping_add(1),
         }
@@ -106,19 +99,11 @@ fn walk<M: Memory>(memory: &mut M, shape: Shape, turns: u32, asks: bool) -> Tall
     tally
 }
 
-// The number of turns and whether the walk asks, by the arguments: a number, and any word after it.
-fn wanted(rt: &HostRuntime) -> io::Result<(u32, bool)> {
-    let mut args = env::args(rt)?;
-    let _ = args.next();
-    let turns = match args.next() {
-        Some(word) => word.as_str().parse::<u32>().unwrap_or(TURNS),
-        None => TURNS,
-    };
-    Ok((turns, args.next().is_some()))
-}
-
 fn main(rt: HostRuntime) -> io::Result<()> {
-    let (turns, asks) = wanted(&rt)?;
+    let mut args = env::args(&rt)?.skip(1);
+    let turns = number_or(args.next(), TURNS);
+    // Any word after the number.
+    let asks = args.next().is_some();
     let Some(shape) = Shape::new(4, 4, 24) else {
         return println!(rt; "no such shape");
     };

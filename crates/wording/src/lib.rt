@@ -10,9 +10,9 @@ use std::fmt;
 // A number of things, with their name for one and for more.
 #[derive(Drop)]
 pub struct Amount<'a> {
-    count: usize,
-    one: &'a str,
-    many: &'a str,
+    pub count: usize,
+    pub one: &'a str,
+    pub many: &'a str,
 }
 
 impl<'a> Amount<'a> {

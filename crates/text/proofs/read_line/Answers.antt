@@ -1,43 +1,42 @@
-use Rattle.std.proofs.Common.{◌≡◌, ◌+◌, ◌*◌, length, Some, None, ◌∙◌, arith, length-set}
+use Rattle.std.proofs.Common.{Some, None, ◌∙◌, sym, arith, length-set, inl, inr}
 use lib.ListN.{length-replicate}
 use Rattle.text.proofs.Lines.{same_reads}
-use Rattle.text.proofs.Reading.{unread, both_none, both_stop, both_more, both_all}
+use Rattle.text.proofs.Reading.{unread, unequal, ends_there, line_is_fields, prepend_nil, both_stop, both_more, both_all}
 use Rattle.text.proofs.read_line.Goals as goal
-use Rattle.text.proofs.read_line.Goals.{then-count-ne1-via-then-count-ne1, then-count-ne1-via-else-count-ne1+then-count}
 
-pub returns-then-count-ne1 : goal.returns-then-count-ne1
-returns-then-count-ne1 g c =
-    let v = unread g.row.N c.args.bytes.now (λ l e. elim c.then-count-ne1.branch [ then-count-ne1-via-then-count-ne1 w ↦ omega arith | then-count-ne1-via-else-count-ne1+then-count w ↦ omega arith ]) in
-    record { value = v; words = same_reads _ _ None v }
+pub returns-then-ne-clause-value : goal.returns-then-ne-clause-value
+returns-then-ne-clause-value g c =
+    let end = c.as_chunks.result.1.now in
+    let ne = unequal end c.as_slice.result.now c.ne.result c.ne.ensures in
+    unread g.row.N c.args.bytes.now (λ l e.
+    let there = ends_there g.row.N c.args.bytes.now end c.as_chunks.ensures.back l e in
+    elim c.then-ne.either [ inl h ↦ ne.0 h (there ∙ sym c.as_slice.ensures) | inr h ↦ h.1 (omega arith) ])
 
-pub returns-then-bytes-ne10 : goal.returns-then-bytes-ne10
-returns-then-bytes-ne10 g c =
-    let v = unread g.row.N c.args.bytes.now (λ l e. c.if-bytes-ne10.true e) in
-    record { value = v; words = same_reads _ _ None v }
+pub returns-then-ne-clause-words : goal.returns-then-ne-clause-words
+returns-then-ne-clause-words g c = same_reads _ _ None (returns-then-ne-clause-value g c)
 
 pub loop-i-init : goal.loop-i-init
-loop-i-init g c = (both_none g.row.N c.args.bytes.now, length-replicate g.row.N 0)
+loop-i-init g c = record { read = prepend_nil _; long = length-replicate g.row.N 0 }
 
-pub returns-in_default : goal.returns-in_default
-returns-in_default g c =
-    let bytes = c.args.bytes.now in
-    let l : length bytes ≡ 4 * g.row.N + 1 = omega arith in
-    let v = both_stop g.row.N c.loop-i.i bytes c.loop-i.numbers l c.loop-i-test.true c.in_default.ensures ∙ c.loop-i.invariant.0 in
-    record { value = v; words = same_reads _ _ None v }
+pub returns-in_err-numbers-clause-value : goal.returns-in_err-numbers-clause-value
+returns-in_err-numbers-clause-value g c =
+    c.from_residual.ensures ∙ both_stop _ _ _ c.loop-i-test.true c.in_err-numbers.ensures ∙ c.loop-i.invariant.read
+    ∙ line_is_fields g.row.N _ _ _ c.as_chunks.ensures.front c.as_chunks.ensures.front_len c.as_chunks.ensures.back c.as_chunks.ensures.back_len
+    ((unequal c.as_chunks.result.1.now c.as_slice.result.now c.ne.result c.ne.ensures).1 c.if-ne.false ∙ c.as_slice.ensures) (omega arith)
+
+pub returns-in_err-numbers-clause-words : goal.returns-in_err-numbers-clause-words
+returns-in_err-numbers-clause-words g c = same_reads _ _ _ (returns-in_err-numbers-clause-value g c)
 
 pub loop-i-preserved : goal.loop-i-preserved
-loop-i-preserved g c =
-    let bytes = c.args.bytes.now in
-    let i = c.loop-i.i in
-    let ns = c.loop-i.numbers in
-    let n = c.in-Some.n in
-    let l : length bytes ≡ 4 * g.row.N + 1 = omega arith in
-    (both_more g.row.N i bytes ns l n c.loop-i-test.true c.loop-i.invariant.1 c.in-Some.ensures ∙ c.loop-i.invariant.0, length-set ns i n ∙ c.loop-i.invariant.1)
+loop-i-preserved g c = record {
+  read = both_more _ _ _ _ c.loop-i-test.true (omega arith) c.in_ok-numbers.ensures ∙ c.loop-i.invariant.read;
+  long = length-set c.loop-i.numbers c.loop-i.i _ ∙ c.loop-i.invariant.long;
+}
 
-pub returns : goal.returns
-returns g c =
-    let bytes = c.args.bytes.now in
-    let ns = c.loop-i.numbers in
-    let l : length bytes ≡ 4 * g.row.N + 1 = omega arith in
-    let v = both_all g.row.N c.loop-i.i bytes ns l (omega arith) c.loop-i.invariant.1 c.if-bytes-ne10.false ∙ c.loop-i.invariant.0 in
-    record { value = v; words = same_reads _ _ (Some ns) v }
+pub returns-clause-value : goal.returns-clause-value
+returns-clause-value g c = both_all _ _ _ c.loop-i-test.false (omega arith) ∙ c.loop-i.invariant.read
+    ∙ line_is_fields g.row.N _ _ _ c.as_chunks.ensures.front c.as_chunks.ensures.front_len c.as_chunks.ensures.back c.as_chunks.ensures.back_len
+    ((unequal c.as_chunks.result.1.now c.as_slice.result.now c.ne.result c.ne.ensures).1 c.if-ne.false ∙ c.as_slice.ensures) (omega arith)
+
+pub returns-clause-words : goal.returns-clause-words
+returns-clause-words g c = same_reads _ _ (Some c.loop-i.numbers) (returns-clause-value g c)

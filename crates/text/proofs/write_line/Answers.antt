@@ -1,4 +1,4 @@
-use Rattle.std.proofs.Common.{sym, arith}
+use Rattle.std.proofs.Common.{sym, ◌∙◌, arith}
 use Rattle.text.proofs.Filling.{written_short, filled_more, written_all}
 use Rattle.text.proofs.write_line.Goals as goal
 
@@ -8,7 +8,7 @@ returns-then-out-end c = written_short c.args.numbers.now c.args.out.now (sym c.
 pub loop-i-preserved : goal.loop-i-preserved
 loop-i-preserved c =
     filled_more c.args.numbers.now c.loop-i.i c.args.out.now c.loop-i.out c.loop-i.invariant (omega arith) (omega arith)
-    c.digit.result c.digit-in-loop-i.result c.digit-in-loop-i-2.result c.loop-i-test.true c.digit.ensures c.digit-in-loop-i.ensures c.digit-in-loop-i-2.ensures
+    _ _ c.loop-i-test.true (omega arith) (c.copy_from_slice.ensures.after ∙ c.digits.ensures)
 
 pub returns : goal.returns
 returns c =
