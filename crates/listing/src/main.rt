@@ -9,11 +9,11 @@ ghost use Rattle.std.specs.Prelude.{◌≡◌, IfOk, string_bytes};
 ghost use Rattle.program.specs.Reading.{read};
 ghost use Rattle.listing.specs.Words.{answered};
 
+use intake::read_all;
 use program::Table;
 use refusals::Told;
 use std::alloc::{AllocError, Global};
 use std::io;
-use std::io::Read;
 use tables::Listed;
 
 // What is printed for a text: the listing of its table, or a line that says why it is refused.
@@ -33,13 +33,7 @@ fn answer(heap: Global, text: &[u8]) -> Result<String, AllocError>
     }
 }
 
-fn read_input(rt: &HostRuntime) -> io::Result<Vec<u8>> {
-    let mut text = Vec::new(rt.alloc());
-    rt.stdin().read_to_end(&mut text)?;
-    Ok(text)
-}
-
 fn main(rt: HostRuntime) -> io::Result<()> {
-    let text = read_input(&rt)?;
+    let text = read_all(rt.alloc(), &mut rt.stdin())?;
     rt.print(answer(rt.alloc(), text.as_slice())?)
 }

@@ -2,44 +2,14 @@
 
 ghost use Rattle.std.specs.Prelude.{◌≡◌, Some};
 ghost use Rattle.program.specs.Tables.{program};
-ghost use Rattle.listing.specs.Words.{instruction_words, row_words, amount_words, counts_words, listing};
+ghost use Rattle.listing.specs.Words.{row_words, counts_words, listing};
 
-use program::{Counts, Instruction, Row, Table};
+use program::{Counts, Row, Table};
 use std::fmt;
+use wording::Amount;
 
-// An instruction as a programmer would write it: registers are r1, r2 .., variables x1, x2 ..
-#[derive(Drop)]
-struct Shown(Instruction);
-
-impl fmt::Display for Shown {
-    ghost output = { λ s. Some (instruction_words s.0) };
-
-    fn fmt<W: fmt::Write>(&self, f: &mut fmt::Formatter<W>) -> fmt::Result {
-        match self.0 {
-            Instruction::Read { register, variable } => write!(f, "r{register} = x{variable}"),
-            Instruction::Write { variable, register } => write!(f, "x{variable} = r{register}"),
-            Instruction::Cas { variable, old, new } => write!(
-                f,
-                "cas x{variable}: r{old} -> r{new}"
-            ),
-            Instruction::Set { register, constant } => write!(f, "r{register} = {constant}"),
-            Instruction::Add {
-                register,
-                left,
-                right,
-            } => write!(f, "r{register} = r{left} + r{right}"),
-            Instruction::Jeq { left, right, label } => write!(
-                f,
-                "if r{left} == r{right} goto {label}"
-            ),
-            Instruction::Assume { left, right } => write!(f, "assume r{left} == r{right}"),
-            Instruction::Fence => write!(f, "fence"),
-            Instruction::Term => write!(f, "term"),
-        }
-    }
-}
-
-// A row as a line of the listing, under the heading of its process if it is the first.
+// A row as a line of the listing, under the heading of its process if it is the first. Another crate's type,
+// so `Display` cannot be written for it here; so it is of a table below.
 #[derive(Drop)]
 struct Line(Row);
 
@@ -49,38 +19,12 @@ impl fmt::Display for Line {
     fn fmt<W: fmt::Write>(&self, f: &mut fmt::Formatter<W>) -> fmt::Result {
         let process = self.0.process;
         let label = self.0.label;
-        let shown = Shown(self.0.instruction);
+        let instruction = self.0.instruction;
         if label == 1 {
-            writeln!(f, "process {process}\n  {label}: {shown}")
+            writeln!(f, "process {process}\n  {label}: {instruction}")
         } else {
-            writeln!(f, "  {label}: {shown}")
+            writeln!(f, "  {label}: {instruction}")
         }
-    }
-}
-
-// A number of things, with their name for one and for more.
-#[derive(Drop)]
-struct Amount<'a> {
-    count: usize,
-    one: &'a str,
-    many: &'a str,
-}
-
-impl<'a> Amount<'a> {
-    fn new(count: usize, one: &'a str, many: &'a str) -> Amount<'a>
-        ensures { (result.count ≡ count) × ((result.one.now ≡ one.now) × (result.many.now ≡ many.now)) }
-    {
-        Amount { count, one, many }
-    }
-}
-
-impl fmt::Display for Amount<'_> {
-    ghost output = { λ a. Some (amount_words a.count a.one.now a.many.now) };
-
-    fn fmt<W: fmt::Write>(&self, f: &mut fmt::Formatter<W>) -> fmt::Result {
-        let count = self.count;
-        let name = if count == 1 { self.one } else { self.many };
-        write!(f, "{count} {name}")
     }
 }
 

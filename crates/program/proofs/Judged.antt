@@ -1,5 +1,5 @@
 -- The rows below a header, judged one by one.
-use Rattle.std.proofs.Common.{◌≡◌, ℕ, ◌+◌, ◌<◌, ◌≤◌, Bool, true, false, cond, eqb, List, [], ◌∷◌, ◌++◌, length, get_or, drop, Some, None, Ok, Err, Option, Result, sym, refl, ap, ◌∙◌, ap₂, inl, inr}
+use Rattle.std.proofs.Common.{◌≡◌, ℕ, ◌+◌, ◌<◌, ◌≤◌, Bool, true, false, cond, eqb, List, [], ◌∷◌, ◌++◌, length, get_or, drop, Some, None, Ok, Err, Option, Result, sym, refl, ap, ◌∙◌, ap₂, inl, inr, arith}
 use Rattle.std.proofs.lemmas.List.{drop_more}
 use Rattle.std.proofs.lemmas.List.Sums.{sum_by-cons}
 use Rattle.std.proofs.lemmas.Bool.{cases_Bool}
@@ -8,10 +8,10 @@ use Rattle.program.specs.declared.refusals.Refusal.TheVariants.{Order, Operand}
 use Rattle.program.specs.declared.rows.Row.{Row}
 use Rattle.program.specs.declared.rows.Counts.{Counts}
 use Rattle.program.specs.declared.rows.Instruction.{Instruction}
-use Rattle.program.specs.Program.{follows, labels_of}
+use Rattle.program.specs.Program.{follows, labels_of, Counted}
 use Rattle.program.specs.Reading.{cons_to, instruction_of, row_with, row_read, rows_read, named}
 use Rattle.program.proofs.Follows.{follows_means}
-use Rattle.program.proofs.Fronts.{front, front_push}
+use Rattle.program.proofs.Fronts.{front, front_more, front_stop}
 use Rattle.program.proofs.Outcomes.{cons_ok, not_both}
 
 -- an accepted row has the process and the label of its line
@@ -36,13 +36,11 @@ module _ (c : Counts) where
       rows_more r e =
           let at = row_place p l i (get_or fs k d) r (sym e) in
           rows_at
-          ∙ ap (λ (z : Result Row Refusal). front xs (cons_to z (rows_read c L (get_or (get_or fs k d) 0 0) (get_or (get_or fs k d) 1 0) (i + 1) (drop (k + 1) fs)))) (sym e)
-          ∙ front_push xs r _
-          ∙ ap (λ (q : ℕ). front (xs ++ (r ∷ [])) (rows_read c L q (get_or (get_or fs k d) 1 0) (i + 1) (drop (k + 1) fs))) (sym at.0)
-          ∙ ap (λ (m : ℕ). front (xs ++ (r ∷ [])) (rows_read c L r.process m (i + 1) (drop (k + 1) fs))) (sym at.1)
+          ∙ front_more xs r _ _ e
+          ∙ ap₂ (λ (q m : ℕ). front (xs ++ (r ∷ [])) (rows_read c L q m (i + 1) (drop (k + 1) fs))) (sym at.0) (sym at.1)
 
       pub rows_stop : (e : Refusal) → Err e ≡ row_read c L p l i (get_or fs k d) → Err e ≡ front xs (rows_read c L p l i (drop k fs))
-      rows_stop e s = sym (rows_at ∙ ap (λ (z : Result Row Refusal). front xs (cons_to z (rows_read c L (get_or (get_or fs k d) 0 0) (get_or (get_or fs k d) 1 0) (i + 1) (drop (k + 1) fs)))) (sym s))
+      rows_stop f e = front_stop xs f _ _ e ∙ sym rows_at
 
     -- as many rows as lines name a process
     pub named_rows : (p l i : ℕ) (fs : List (List ℕ)) (rows : List Row) → rows_read c L p l i fs ≡ Ok rows → (q : ℕ) → named fs q ≡ labels_of rows q
@@ -72,3 +70,10 @@ module _ (c : Counts) where
     rows_labels p l i (f ∷ fs) =
         ap (λ (z : Result Row Refusal). cons_to z (rows_read c L (get_or f 0 0) (get_or f 1 0) (i + 1) fs)) (row_labels p l i f)
         ∙ ap (λ (z : Result (List Row) Refusal). cons_to (row_read c M p l i f) z) (rows_labels (get_or f 0 0) (get_or f 1 0) (i + 1) fs)
+
+-- and so by a count of each process that a table may have
+pub judged_by : (c : Counts) (labels : List ℕ) (fs : List (List ℕ)) → c.processes ≤ 4 → Counted labels (named fs) → rows_read c (λ q. get_or labels q 0) 0 0 2 fs ≡ rows_read c (named fs) 0 0 2 fs
+judged_by c labels fs few counted = rows_labels c (λ q. get_or labels q 0) (named fs) (λ q h. counted q (omega arith)) 0 0 2 fs
+
+pub counted_rows : (c : Counts) (labels : List ℕ) (fs : List (List ℕ)) (rows : List Row) → Counted labels (named fs) → Ok rows ≡ rows_read c (named fs) 0 0 2 fs → Counted labels (labels_of rows)
+counted_rows c labels fs rows counted e q h = counted q h ∙ named_rows c (named fs) 0 0 2 fs rows (sym e) q

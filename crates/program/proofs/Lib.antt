@@ -1,9 +1,7 @@
 pub mod Fronts
 pub mod Follows
 pub mod Tallies
-pub mod Ends
 pub mod Judged
-pub mod Whole
 pub mod Instructions
 pub mod Outcomes
 pub mod Lines
@@ -21,3 +19,4 @@ pub mod Words
 pub mod Faulted
 pub mod FaultedRows
 pub mod Taken
+pub mod Ends

@@ -1,6 +1,6 @@
 -- The lines of a text and their numbers.
-use Rattle.std.proofs.Common.{◌≡◌, ℕ, zero, suc, ◌+◌, ◌-◌, ◌*◌, ◌<◌, List, [], ◌∷◌, ◌++◌, length, take, drop, Some, None, Ok, Err, Option, Result, sym, refl, ap, ◌∙◌, subst, ap₂, arith}
-use Rattle.std.proofs.lemmas.List.{length-append, length-drop, take-append-drop, take_at, drop_at, drop-drop, nil_from_length}
+use Rattle.std.proofs.Common.{◌≡◌, ℕ, zero, suc, ◌+◌, ◌*◌, List, [], ◌∷◌, ◌++◌, length, take, drop, Some, Ok, Option, Result, sym, refl, ap, ◌∙◌, subst, ap₂, arith}
+use Rattle.std.proofs.lemmas.List.{length-append, length-drop, take-append-drop, take_at, drop_at, nil_from_length}
 use Rattle.std.specs.Option.{ok_or}
 use Rattle.std.specs.List.{AllByRecursion}
 use Rattle.text.specs.Lines.{line_text, line_numbers, Reads}
@@ -9,30 +9,7 @@ use Rattle.program.specs.declared.refusals.Refusal.{Refusal}
 use Rattle.program.specs.declared.refusals.Refusal.TheVariants.{Field}
 use Rattle.program.specs.Program.{lines_text, Six}
 use Rattle.program.specs.Reading.{cons_to, lines, numbers}
-use Rattle.program.proofs.Fronts.{front, front_push}
 use Rattle.program.proofs.Outcomes.{cons_ok, or_ok}
-
--- one line, and the lines after it
-lines_at : (n i : ℕ) (text : List ℕ) → i < n → lines (n - i) (drop (25 * i) text) ≡ take 25 (drop (25 * i) text) ∷ lines (n - (i + 1)) (drop (25 * (i + 1)) text)
-lines_at n i text h =
-    let e : n - i ≡ suc (n - (i + 1)) = omega arith in
-    let f : 25 * i + 25 ≡ 25 * (i + 1) = omega arith in
-    ap (λ (k : ℕ). lines k (drop (25 * i) text)) e
-    ∙ ap (λ (bs : List ℕ). take 25 (drop (25 * i) text) ∷ lines (n - (i + 1)) bs) (drop-drop 25 (25 * i) text ∙ ap (λ (k : ℕ). drop k text) f)
-
-module _ (n i : ℕ) (text : List ℕ) (h : i < n) (xs : List (List ℕ)) where
-  at_line : front xs (numbers (i + 1) (lines (n - i) (drop (25 * i) text))) ≡ front xs (cons_to (ok_or (line_numbers 6 (take 25 (drop (25 * i) text))) (Field (i + 1))) (numbers ((i + 1) + 1) (lines (n - (i + 1)) (drop (25 * (i + 1)) text))))
-  at_line = ap (λ (bs : List (List ℕ)). front xs (numbers (i + 1) bs)) (lines_at n i text h)
-
-  pub numbers_more : (f : List ℕ) → line_numbers 6 (take 25 (drop (25 * i) text)) ≡ Some f → front xs (numbers (i + 1) (lines (n - i) (drop (25 * i) text))) ≡ front (xs ++ (f ∷ [])) (numbers ((i + 1) + 1) (lines (n - (i + 1)) (drop (25 * (i + 1)) text)))
-  numbers_more f e =
-      at_line
-      ∙ ap (λ (o : Option (List ℕ)). front xs (cons_to (ok_or o (Field (i + 1))) (numbers ((i + 1) + 1) (lines (n - (i + 1)) (drop (25 * (i + 1)) text))))) e
-      ∙ front_push xs f _
-
-  pub numbers_stop : line_numbers 6 (take 25 (drop (25 * i) text)) ≡ None → front xs (numbers (i + 1) (lines (n - i) (drop (25 * i) text))) ≡ Err (Field (i + 1))
-  numbers_stop e =
-      at_line ∙ ap (λ (o : Option (List ℕ)). front xs (cons_to (ok_or o (Field (i + 1))) (numbers ((i + 1) + 1) (lines (n - (i + 1)) (drop (25 * (i + 1)) text))))) e
 
 -- the numbers read are those whose lines the text is
 pub line_is : (b f : List ℕ) → line_numbers 6 b ≡ Some f → Six f × (b ≡ line_text f)

@@ -1,17 +1,18 @@
 -- Writing a table's lines one after another into a buffer.
-use Rattle.std.proofs.Common.{◌≡◌, ℕ, zero, suc, ◌+◌, ◌-◌, ◌*◌, ◌<◌, ◌≤◌, Bool, true, false, cond, leb, List, [], ◌∷◌, ◌++◌, length, get_or, take, drop, Ok, Err, Result, sym, ap, ◌∙◌, subst, ap₂, inl, inr, append_assoc, append-nil, arith}
+use Rattle.std.proofs.Common.{◌≡◌, ℕ, ◌+◌, ◌-◌, ◌*◌, ◌<◌, ◌≤◌, Bool, true, false, cond, leb, List, [], ◌∷◌, ◌++◌, length, get_or, take, drop, Ok, Err, Result, sym, ap, ◌∙◌, refl, ap₂, append_assoc, append-nil, arith, add-one}
 use borrow.Rule.Slice.PartMut.{put_mid}
-use Rattle.std.proofs.ByRecursion.{All-take}
+use Rattle.std.proofs.ByRecursion.{All-take, All-get_or}
 use Rattle.std.proofs.lemmas.List.{length-take-le, length-drop, length-map, get_or-map, take_at, drop_at, drop-drop, drop_all, take_more, take_all, take_rest}
-use Rattle.std.proofs.lemmas.Bool.{cases_Bool, le-leb, lt-leb}
+use Rattle.std.proofs.lemmas.Bool.{le-leb, lt-leb}
 use Rattle.std.specs.List.{AllByRecursion}
 use Rattle.text.specs.declared.Unwritten.{Unwritten}
 use Rattle.text.specs.declared.Unwritten.TheVariants as unwritten
 use Rattle.text.specs.Lines.{line_text, all_small}
 use Rattle.text.specs.Writing.{over, written}
-use Rattle.text.proofs.Lines.{length_line}
+use Rattle.text.proofs.Lines.{length_line, small_is_all}
 use Rattle.program.specs.declared.rows.Row.{Row}
-use Rattle.program.specs.Program.{Program, row_fields, table_fields, lines_text, is_nothing, kept, Six}
+use Rattle.program.specs.Program.{Program, row_fields, table_fields, lines_text, is_nothing, kept, Six, proper, header_fields}
+use Rattle.program.specs.declared.refusals.Short.{Short}
 use Rattle.program.specs.Reading.{read}
 use Rattle.program.specs.Tables.{lines_of, text_of, table_written}
 use Rattle.program.proofs.Lines.{length_lines}
@@ -48,7 +49,7 @@ module _ (fs : List (List ℕ)) (six : AllByRecursion Six fs) (o out : List ℕ)
   front_long : length (lines_text (take i fs)) ≡ 25 * i
   front_long = length_lines (take i fs) (All-take Six i fs six) ∙ ap (λ (n : ℕ). 25 * n) (length-take-le i fs (omega arith))
 
-  pub page_more : (f new : List ℕ) → f ≡ get_or fs i [] → new ≡ take (25 * i) out ++ (line_text f ++ drop (25 * i + 25) out) → new ≡ lines_text (take (i + 1) fs) ++ drop (25 * (i + 1)) o
+  page_more : (f new : List ℕ) → f ≡ get_or fs i [] → new ≡ take (25 * i) out ++ (line_text f ++ drop (25 * i + 25) out) → new ≡ lines_text (take (i + 1) fs) ++ drop (25 * (i + 1)) o
   page_more f new e n =
       let head : take (25 * i) out ≡ lines_text (take i fs) = ap (λ (z : List ℕ). take (25 * i) z) so_far ∙ take_at (lines_text (take i fs)) (drop (25 * i) o) (25 * i) front_long in
       let tail : drop (25 * i) out ≡ drop (25 * i) o = ap (λ (z : List ℕ). drop (25 * i) z) so_far ∙ drop_at (lines_text (take i fs)) (drop (25 * i) o) (25 * i) front_long in
@@ -57,50 +58,52 @@ module _ (fs : List (List ℕ)) (six : AllByRecursion Six fs) (o out : List ℕ)
       let lines : lines_text (take (i + 1) fs) ≡ lines_text (take i fs) ++ line_text f = ap lines_text (take_more fs i [] low) ∙ lines_push (take i fs) (get_or fs i []) ∙ ap (λ (g : List ℕ). lines_text (take i fs) ++ line_text g) (sym e) in
       n ∙ ap₂ (λ (a b : List ℕ). a ++ (line_text f ++ b)) head rest ∙ sym (append_assoc (lines_text (take i fs)) (line_text f) (drop (25 * (i + 1)) o)) ∙ ap (λ (z : List ℕ). z ++ drop (25 * (i + 1)) o) (sym lines)
 
--- the lines of a table
-module _ (p : Program) (keeps : kept p ≡ true) where
-  pub lines_some : is_nothing p ≡ false → lines_of p ≡ table_fields p
-  lines_some e = ap (λ (b : Bool). cond b [] (table_fields p)) e
+-- the first lines of a table's text over the front of a buffer
+pub page : Program → ℕ → List ℕ → List ℕ
+page p n out = lines_text (take n (table_fields p)) ++ drop (25 * n) out
 
-  lines_none : is_nothing p ≡ true → lines_of p ≡ []
-  lines_none e = ap (λ (b : Bool). cond b [] (table_fields p)) e
+-- a table of which something was read
+module _ (p : Program) (keeps : kept p ≡ true) (some : is_nothing p ≡ false) where
+  good : proper p ≡ true
+  good = kept_proper p keeps some
 
-  pub lines_six : AllByRecursion Six (lines_of p)
-  lines_six = elim (cases_Bool (is_nothing p)) [
-    | inl e ↦ subst (AllByRecursion Six) (sym (lines_none e)) tt
-    | inr e ↦ subst (AllByRecursion Six) (sym (lines_some e)) (fields_six p (kept_proper p keeps e))
-  ]
+  lines_are : lines_of p ≡ table_fields p
+  lines_are = ap (λ (b : Bool). cond b [] (table_fields p)) some
 
-  pub text_back : is_nothing p ≡ false → read (text_of p) ≡ Ok p
-  text_back e = ap (λ (fs : List (List ℕ)). read (lines_text fs)) (lines_some e) ∙ read_back p (kept_proper p keeps e)
+  count : length (table_fields p) ≡ length p.rows + 1
+  count = omega (arith, length-map p.rows row_fields)
 
-  -- a line other than the first is a row's
-  pub row_line : (i : ℕ) → 0 < i → i < length (lines_of p) → (i - 1 < length p.rows) × ((d : Row) → get_or (lines_of p) i [] ≡ row_fields (get_or p.rows (i - 1) d))
-  row_line zero low high = let z : ⊥ = omega arith in elim z [ ]
-  row_line (suc i) low high = elim (cases_Bool (is_nothing p)) [
-    | inl e ↦ let none = ap length (lines_none e) in let z : ⊥ = omega arith in elim z [ ]
-    | inr e ↦
-        let some = ap length (lines_some e) in
-        let same : suc i - 1 ≡ i = omega arith in
-        let h : i < length p.rows = omega (arith, some, length-map p.rows row_fields) in
-        (omega arith, λ d. ap (λ (fs : List (List ℕ)). get_or fs (suc i) []) (lines_some e) ∙ get_or-map row_fields p.rows i d [] h ∙ ap (λ (n : ℕ). row_fields (get_or p.rows n d)) (sym same))
-  ]
+  pub text_back : read (text_of p) ≡ Ok p
+  text_back = ap (λ (fs : List (List ℕ)). read (lines_text fs)) lines_are ∙ read_back p good
 
-  -- what is answered
+  row_at : (i : ℕ) (d : Row) → i < length p.rows → row_fields (get_or p.rows i d) ≡ get_or (table_fields p) (i + 1) []
+  row_at i d low = rw add-one (sym (get_or-map row_fields p.rows i d [] low))
+
+  pub row_small : (f : List ℕ) (i : ℕ) (d : Row) → f ≡ row_fields (get_or p.rows i d) → i < length p.rows → all_small f ≡ true
+  row_small f i d at low = ap all_small (at ∙ row_at i d low) ∙ small_is_all _ (All-get_or Six (table_fields p) (i + 1) [] (omega (arith, count)) (fields_six p good)).1
+
   module _ (out : List ℕ) where
-    text_long : length (text_of p) ≡ 25 * length (lines_of p)
-    text_long = length_lines (lines_of p) lines_six
+    pub first_line : (new : List ℕ) → new ≡ line_text (header_fields p.counts (length p.rows)) ++ drop 25 out → new ≡ page p 1 out
+    unfolding page
+    first_line new e = page_more (table_fields p) (fields_six p good) out out 0 (omega (arith, count)) refl _ new refl e
 
-    pub page_short : (n : ℕ) → n ≡ length (lines_of p) → length out < 25 * n → (Err (record { needed = 25 * n }), out) ≡ table_written p out
-    page_short n e h =
-        let needed : 25 * n ≡ length (text_of p) = ap (λ (m : ℕ). 25 * m) e ∙ sym text_long in
-        ap (λ (m : ℕ). (Err (record { needed = m }), out)) needed
-        ∙ sym (ap (λ (b : Bool). cond b (Ok (length (text_of p)), over (text_of p) out) (Err (record { needed = length (text_of p) }), out)) (lt-leb (length (text_of p)) (length out) (omega arith)))
+    pub next_line : (now new f : List ℕ) (i : ℕ) (d : Row) → f ≡ row_fields (get_or p.rows i d) → i < length p.rows → now ≡ page p (i + 1) out → new ≡ take (25 * (i + 1)) now ++ (line_text f ++ drop (25 * (i + 1) + 25) now) → new ≡ page p ((i + 1) + 1) out
+    unfolding page
+    next_line now new f i d at low so_far e = page_more (table_fields p) (fields_six p good) out now (i + 1) (omega (arith, count)) so_far f new (at ∙ row_at i d low) e
 
-    pub page_all : (n i : ℕ) (new : List ℕ) → n ≡ length (lines_of p) → 25 * n ≤ length out → n ≤ i → new ≡ lines_text (take i (lines_of p)) ++ drop (25 * i) out → i ≤ n → (Ok (25 * n), new) ≡ table_written p out
-    page_all n i new e h end w low =
-        let needed : 25 * n ≡ length (text_of p) = ap (λ (m : ℕ). 25 * m) e ∙ sym text_long in
-        let at : 25 * i ≡ length (text_of p) = omega arith in
-        let whole : new ≡ over (text_of p) out = w ∙ ap₂ (λ (fs : List (List ℕ)) (k : ℕ). lines_text fs ++ drop k out) (take_all i (lines_of p) (omega arith)) at in
-        ap₂ (λ (m : ℕ) (z : List ℕ). (Ok m, z)) needed whole
-        ∙ sym (ap (λ (b : Bool). cond b (Ok (length (text_of p)), over (text_of p) out) (Err (record { needed = length (text_of p) }), out)) (le-leb (length (text_of p)) (length out) (omega arith)))
+    text_long : 25 * (length p.rows + 1) ≡ length (text_of p)
+    text_long = sym (ap (λ (fs : List (List ℕ)). length (lines_text fs)) lines_are ∙ length_lines (table_fields p) (fields_six p good) ∙ ap (λ (n : ℕ). 25 * n) count)
+
+    abbrev answered : Bool → Result ℕ Short × List ℕ
+    answered b = cond b (Ok (length (text_of p)), over (text_of p) out) (Err (record { needed = length (text_of p) }), out)
+
+    pub page_short : length out < 25 * (length p.rows + 1) → (Err (record { needed = 25 * (length p.rows + 1) }), out) ≡ table_written p out
+    page_short h =
+        ap (λ (n : ℕ). (Err (record { needed = n }), out)) text_long ∙ sym (ap answered (lt-leb (length (text_of p)) (length out) (omega (arith, text_long))))
+
+    pub page_all : (i : ℕ) (new : List ℕ) → 25 * (length p.rows + 1) ≤ length out → i ≡ length p.rows → new ≡ page p (i + 1) out → (Ok (25 * (length p.rows + 1)), new) ≡ table_written p out
+    unfolding page
+    page_all i new h end w =
+        let at : 25 * (i + 1) ≡ length (text_of p) = omega (arith, text_long) in
+        let whole : new ≡ over (text_of p) out = w ∙ ap₂ (λ (fs : List (List ℕ)) (k : ℕ). lines_text fs ++ drop k out) (take_all (i + 1) (table_fields p) (omega (arith, count)) ∙ sym lines_are) at in
+        ap₂ (λ (n : ℕ) (z : List ℕ). (Ok n, z)) text_long whole ∙ sym (ap answered (le-leb (length (text_of p)) (length out) (omega (arith, text_long))))

@@ -1,8 +1,8 @@
 -- Where the rows of each process begin.
-use Rattle.std.proofs.Common.{◌≡◌, ℕ, zero, suc, ◌+◌, ◌-◌, ◌<◌, ◌≤◌, Bool, true, false, cond, ◌&&◌, eqb, ltb, ◌⊎◌, List, [], ◌∷◌, length, get_or, Some, None, Option, sym, refl, ap, ◌∙◌, ap₂, inl, inr, arith}
+use Rattle.std.proofs.Common.{◌≡◌, ℕ, zero, suc, ◌+◌, ◌-◌, ◌<◌, ◌≤◌, Bool, true, false, cond, ◌&&◌, eqb, ltb, ◌⊎◌, List, [], ◌∷◌, length, get_or, take, drop, Some, None, Option, sym, refl, ap, ◌∙◌, ap₂, inl, inr, arith}
 use Rattle.std.proofs.lemmas.List.Sums.{sum_by-cons}
-use Rattle.std.proofs.lemmas.Bool.{and_parts, or_cases, ne_eqb, le-ltb, eqb-true, cases_lt, both_ways}
-use Rattle.std.proofs.lemmas.List.{nil_from_length}
+use Rattle.std.proofs.lemmas.Bool.{and_parts, or_cases, ne_eqb, le-ltb, eqb-true, both_ways}
+use Rattle.std.proofs.lemmas.List.{nil_from_length, length-take, length-drop, get_or-take, get_or-drop}
 use Rattle.program.specs.declared.rows.Row.{Row}
 use Rattle.program.specs.declared.rows.Counts.{Counts}
 use Rattle.program.specs.declared.rows.Instruction.{Instruction}
@@ -57,14 +57,12 @@ module _ (starts : List ℕ) (rows : List Row) (placed : starts ≡ starts_of ro
   pub start_at : get_or starts q 0 ≡ rows_below rows q
   start_at = ap (λ (s : List ℕ). get_or s q 0) placed ∙ place_at rows q (omega arith)
 
-  next_at : get_or starts (q + 1) 0 ≡ rows_below rows q + labels_of rows q
+  pub next_at : get_or starts (q + 1) 0 ≡ rows_below rows q + labels_of rows q
   next_at = ap (λ (s : List ℕ). get_or s (q + 1) 0) placed ∙ place_at rows (q + 1) (omega arith) ∙ below_next rows q
 
-  pub starts_rise : get_or starts q 0 ≤ get_or starts (q + 1) 0
-  starts_rise = omega (arith, start_at, next_at)
-
-  pub starts_count : get_or starts (q + 1) 0 - get_or starts q 0 ≡ labels_of rows q
-  starts_count = omega (arith, start_at, next_at)
+-- the part of the rows that a process has
+pub part_long : (rows : List Row) (q : ℕ) → length (take (labels_of rows q) (drop (rows_below rows q) rows)) ≡ labels_of rows q
+part_long rows q = length-take (labels_of rows q) (drop (rows_below rows q) rows) ∙ omega (arith, length-drop (rows_below rows q) rows, below_next rows q, below_few rows (q + 1))
 
 -- no row names a process that the table has not
 module _ (c : Counts) (L : ℕ → ℕ) (q : ℕ) (high : c.processes < q) where
@@ -96,13 +94,6 @@ module _ (p : Program) (keeps : kept p ≡ true) (q : ℕ) where
   ]
 
   module _ (l : ℕ) where
-    -- a process with labels is one that the table has
-    pub is_process : 1 ≤ l → l ≤ labels_of p.rows q → q ≤ 4
-    is_process low high = elim (cases_lt 4 q) [
-      | inl h ↦ omega (arith, past_last h)
-      | inr h ↦ h
-    ]
-
     pub at_place : (d : Row) → 1 ≤ l → l ≤ labels_of p.rows q → instruction_at p.rows q l ≡ Some (get_or p.rows (rows_below p.rows q + (l - 1)) d).instruction
     at_place d low high = elim (kept_cases p keeps) [
       | inl n ↦ let none : labels_of p.rows q ≡ 0 = ap (λ (rows : List Row). labels_of rows q) n in let z : ⊥ = omega arith in elim z [ ]
@@ -115,9 +106,6 @@ module _ (p : Program) (keeps : kept p ≡ true) (q : ℕ) where
       | inr g ↦ not_found p q l g h
     ]
 
-    pub place_low : 1 ≤ l → l ≤ labels_of p.rows q → rows_below p.rows q + (l - 1) < length p.rows
-    place_low low high = omega (arith, below_next p.rows q, below_few p.rows (q + 1))
-
     fits_here : (r : Option Instruction) → instruction_at p.rows q l ≡ r → FitsAt p q l r
     fits_here None e = tt
     fits_here (Some x) e = elim (kept_cases p keeps) [
@@ -127,3 +115,16 @@ module _ (p : Program) (keeps : kept p ≡ true) (q : ℕ) where
 
     pub fits_at : (r : Option Instruction) → r ≡ instruction_at p.rows q l → FitsAt p q l r
     fits_at r e = fits_here r (sym e)
+
+-- the row at a place among those of a process is that of its label
+module _ (p : Program) (keeps : kept p ≡ true) (q : ℕ) (part : List Row) (are : part ≡ take (labels_of p.rows q) (drop (rows_below p.rows q) p.rows)) where
+  long : length part ≡ labels_of p.rows q
+  long = ap length are ∙ part_long p.rows q
+
+  pub found_in : (i l : ℕ) (d r : Row) → l ≡ i + 1 → i < length part → r ≡ get_or part i d → Some r.instruction ≡ instruction_at p.rows q l
+  found_in i l d r e h at =
+      let same : r ≡ get_or p.rows (rows_below p.rows q + (l - 1)) d = at ∙ ap (λ (z : List Row). get_or z i d) are ∙ get_or-take (labels_of p.rows q) (drop (rows_below p.rows q) p.rows) i d (omega (arith, long)) ∙ get_or-drop (rows_below p.rows q) p.rows i d ∙ ap (λ (n : ℕ). get_or p.rows n d) (omega arith) in
+      ap (λ (x : Row). Some x.instruction) same ∙ sym (at_place p keeps q l d (omega arith) (omega (arith, long)))
+
+  pub found_none : (l : ℕ) → ((1 ≤ l) × (l ≤ length part) → ⊥) → None ≡ instruction_at p.rows q l
+  found_none l h = sym (at_no_place p keeps q l (λ both. h (both.0, omega (arith, long, both.1))))

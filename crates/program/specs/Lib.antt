@@ -4,3 +4,4 @@ pub mod Refusals
 pub mod Source
 pub mod Tables
 pub mod Faults
+pub mod Words

@@ -1,6 +1,7 @@
 -- Reading a table from its text: for every byte string the one outcome.
-use Rattle.std.specs.Prelude.{ℕ, zero, suc, ◌+◌, ◌/◌, ◌%◌, Bool, cond, ◌&&◌, ◌||◌, List, [], ◌∷◌, length, take, drop, Some, None, Ok, Err, count_by, Option, Result, ◌==◌, nat_eq, nat_lt, slice_index}
+use Rattle.std.specs.Prelude.{ℕ, ◌+◌, ◌/◌, ◌%◌, Bool, cond, ◌&&◌, ◌||◌, List, [], ◌∷◌, length, Some, None, Ok, Err, count_by, Option, Result, ◌==◌, nat_eq, nat_lt, slice_index}
 use Rattle.std.specs.Option.{ok_or}
+use Rattle.std.specs.Simd.{first_chunks}
 use Rattle.text.specs.Lines.{line_numbers}
 use Rattle.program.specs.declared.refusals.Refusal.{Refusal}
 use Rattle.program.specs.declared.refusals.Refusal.TheVariants.{Length, Field, Header, Order, Operand, NoTerm, NoProcess}
@@ -26,8 +27,7 @@ line_count text = cond (length text % 25 == 0 && within 2 129 (length text / 25)
 
 -- the first k lines
 abbrev pub lines : ℕ → List ℕ → List (List ℕ)
-lines zero bytes = []
-lines (suc k) bytes = take 25 bytes ∷ lines k (drop 25 bytes)
+lines k bytes = first_chunks 25 k bytes
 
 -- the six numbers of each line, from line i on
 abbrev pub numbers : ℕ → List (List ℕ) → Result (List (List ℕ)) Refusal

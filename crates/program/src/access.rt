@@ -1,5 +1,5 @@
-ghost use Rattle.std.specs.Prelude.{◌≡◌, true, false};
-ghost use Rattle.program.specs.Program.{is_nothing, proper, labels_of, instruction_at};
+ghost use Rattle.std.specs.Prelude.{◌≡◌, true, false, take, drop};
+ghost use Rattle.program.specs.Program.{is_nothing, proper, labels_of, rows_below, instruction_at};
 ghost use Rattle.program.specs.Source.{WellMade};
 ghost use Rattle.program.specs.Tables.{program, FitsAt};
 
@@ -28,15 +28,25 @@ impl Table {
         self.rows.as_slice()
     }
 
+    // The rows of a process, one for each of its labels from 1 on.
+    fn rows_of(&self, process: u8) -> &[Row]
+        ensures { let rows = (program self.now).rows in result.now ≡ take (labels_of rows process) (drop (rows_below rows process) rows) }
+    {
+        let at = usize::from(process);
+        if at > 4 {
+            return &[];
+        }
+        let first = usize::from(self.starts[at]);
+        let end = usize::from(self.starts[at + 1]);
+        &self.rows[first..end]
+    }
+
     // How many labels a process has.
     pub fn labels(&self, process: u8) -> u8
         ensures { result ≡ labels_of (program self.now).rows process }
     {
-        if process > 4 {
-            return 0;
-        }
-        let at = usize::from(process);
-        self.starts[at + 1] - self.starts[at]
+        // At most 128: the cast keeps it, and `try_from` would add an error.
+        self.rows_of(process).len() as u8
     }
 
     // The instruction of a process at a label.
@@ -44,10 +54,9 @@ impl Table {
         ensures value { result ≡ instruction_at (program self.now).rows process label }
         ensures fits { FitsAt (program self.now) process label result }
     {
-        if label < 1 || label > self.labels(process) {
-            return None;
-        }
-        let first = usize::from(self.starts[usize::from(process)]);
-        Some(self.rows[first + usize::from(label) - 1].instruction)
+        let row = self
+            .rows_of(process)
+            .get(usize::from(label).checked_sub(1)?)?;
+        Some(row.instruction)
     }
 }

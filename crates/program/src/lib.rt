@@ -5,6 +5,7 @@
 mod access;
 mod decoding;
 mod filling;
+mod printing;
 mod reading;
 pub mod refusals;
 pub mod rows;

@@ -1,198 +1,209 @@
-ghost use Rattle.std.specs.Prelude.{◌≡◌, ◌*◌, ◌<◌, ◌≤◌, true, length, take, IfOk, Ok, slice_index};
-ghost use Rattle.program.specs.Program.{follows, is_term, labels_of, Counted};
-ghost use Rattle.program.specs.Reading.{header_read, row_read, rows_read, ends_read, named, line_count, lines_read, then_do, read};
+ghost use Rattle.std.specs.Prelude.{◌≡◌, ◌≤◌, true, [], length, drop, Ok, IfOk, OnOk, slice_index, slice_index_or};
+ghost use Rattle.std.specs.Option.{ok_or};
+ghost use Rattle.arrayvec.specs.ArrayVec.{array_vec_len};
+ghost use Rattle.text.specs.Lines.{line_numbers};
+ghost use Rattle.program.specs.declared.refusals.Refusal.TheVariants.{Field};
+ghost use Rattle.program.specs.Program.{follows, labels_of, proper, Counted};
+ghost use Rattle.program.specs.Reading.{header_read, row_read, rows_read, ends_read, named, line_count, lines, lines_read, then_do, read};
 
-use super::decoding::{instruction, is_within};
+use super::decoding::Scope;
 use super::refusals::Refusal;
-use super::rows::{Counts, Instruction, LINE, MOST_LABELS, MOST_LINES, MOST_ROWS, Row};
+use super::rows::{Counts, LINE, MOST_LABELS, MOST_LINES, MOST_ROWS, Row};
+use arrayvec::ArrayVec;
 use text::read_line;
 
-// The counts of a header that says how many rows follow it.
+// The lines of a text.
+fn cut(text: &[u8]) -> Result<&[[u8; LINE]], Refusal>
+    ensures value { then_do result (λ cut. Ok cut.now) ≡ then_do (line_count text.now) (λ n. Ok (lines n text.now)) }
+    ensures some { IfOk result (λ cut. 2 ≤ length cut.now) }
+    ensures bound { IfOk result (λ cut. length cut.now ≤ 129) }
+{
+    match text.as_chunks::<LINE>() {
+        (lines, []) if (2..=MOST_LINES).contains(&lines.len()) => Ok(lines),
+        _ => Err(Refusal::Length),
+    }
+}
+
+// The numbers of the line that has a number.
+fn numbers(line: &[u8], number: u8) -> Result<[u16; 6], Refusal>
+    ensures { result ≡ ok_or (line_numbers 6 line.now) (Field number) }
+{
+    read_line::<6>(line).ok_or(Refusal::Field { line: number })
+}
+
+// Puts the numbers of each line of a text into an empty vector. The vector is lent: handed out by value
+// it is copied twice, which makes reading a twentieth slower.
+fn split(text: &[u8], all: &mut ArrayVec<[u16; 6], MOST_LINES>) -> Result<(), Refusal>
+    requires { all.old.items ≡ [] }
+    ensures value { then_do result (λ _. Ok all.new.items) ≡ lines_read text.now }
+    ensures some { OnOk result (1 ≤ array_vec_len all.new) }
+{
+    for (i, line) in cut(text)?.iter().enumerate() {
+        all.push(numbers(line, (i + 1) as u8)?);
+    }
+    Ok(())
+}
+
+// The numbers of each line of a text: those of the header, then those of each line below it.
+#[derive(Clone, Copy)]
+struct Lines<'a> {
+    all: &'a ArrayVec<[u16; 6], MOST_LINES>,
+    ghost some: { 1 ≤ array_vec_len all.now },
+}
+
+impl<'a> Lines<'a> {
+    fn header(&self) -> [u16; 6]
+        ensures { result ≡ slice_index_or self.now.all.now.items 0 [] }
+    {
+        self.all[0]
+    }
+
+    fn below(&self) -> &'a [[u16; 6]]
+        ensures value { result.now ≡ drop 1 self.now.all.now.items }
+        ensures bound { length result.now ≤ 128 }
+    {
+        &self.all[1..]
+    }
+
+    // How many of the lines below the header name each process.
+    fn tally(&self) -> [u8; 5]
+        ensures { Counted result (named (drop 1 self.now.all.now.items)) }
+    {
+        let mut labels = [0; 5];
+        // By index, since a proof does not know what is written through get_mut.
+        for line in self.below() {
+            let process = usize::from(line[0]);
+            if process < 5 {
+                labels[process] += 1;
+            }
+        }
+        labels
+    }
+}
+
+// The counts of a header that says how many rows follow it. Numbers behind their limits are cast, here and for
+// a row: that nothing is lost is proved, and `try_from` would add a branch that no text takes.
 fn header(line: [u16; 6], rows: usize) -> Result<Counts, Refusal>
     ensures { result ≡ header_read line rows }
 {
-    let [processes, variables, registers, values, count, zero] = line;
-    if is_within(1, 4, processes)
-        && is_within(1, 4, variables)
-        && is_within(1, 4, registers)
-        && is_within(2, 8, values)
-        && is_within(1, 128, count)
-        && usize::from(count) == rows
-        && zero == 0
-    {
-        return Ok(Counts {
+    match line {
+        [
+            processes @ 1..=4,
+            variables @ 1..=4,
+            registers @ 1..=4,
+            values @ 2..=8,
+            count @ 1..=128,
+            0,
+        ] if usize::from(count) == rows => Ok(Counts {
             processes: processes as u8,
             variables: variables as u8,
             registers: registers as u8,
             values: values as u8,
-        });
+        }),
+        _ => Err(Refusal::Header),
     }
-    Err(Refusal::Header)
 }
 
-// Whether a row may stand below another, by process and label; before the first stands process 0.
-fn may_follow(counts: Counts, process: u8, label: u8, next: u16, at: u16) -> bool
-    ensures value { result ≡ follows counts process label next at }
-    ensures bound { result ≡ true → (next ≤ counts.processes) × (at ≤ 32) }
-{
-    let same = process >= 1 && next == u16::from(process) && at == u16::from(label) + 1;
-    let new = next == u16::from(process) + 1 && at == 1;
-    (same || new) && next <= u16::from(counts.processes) && at <= MOST_LABELS
+// What rows are judged by: the counts of the header, and how many rows name each process.
+#[derive(Clone, Copy)]
+pub(crate) struct Frame {
+    pub(crate) counts: Counts,
+    pub(crate) labels: [u8; 5],
+    ghost few: { counts.processes ≤ 4 },
 }
 
-// One line as the row below a process and a label, where so many rows name each process.
-fn row(
-    counts: Counts,
-    labels: [u8; 5],
-    process: u8,
-    label: u8,
-    line: [u16; 6],
-    number: u8,
-) -> Result<Row, Refusal>
-    requires { counts.processes ≤ 4 }
-    ensures { result ≡ row_read counts (λ q. slice_index labels q) process label number line }
-{
-    let next = line[0];
-    let at = line[1];
-    if !may_follow(counts, process, label, next, at) {
-        return Err(Refusal::Order { line: number });
+impl Frame {
+    // Whether a process and a label may stand below a row, or first, which is below process 0.
+    fn may_follow(self, above: Row, next: u16, at: u16) -> bool
+        ensures value { result ≡ follows self.counts above.process above.label next at }
+        ensures bound { result ≡ true → (next ≤ self.counts.processes) × (at ≤ 32) }
+    {
+        let process = u16::from(above.process);
+        let same = process >= 1 && next == process && at == u16::from(above.label) + 1;
+        let new = next == process + 1 && at == 1;
+        (same || new) && next <= u16::from(self.counts.processes) && at <= MOST_LABELS
     }
-    match instruction(
-        counts,
-        labels[usize::from(next)],
-        line[2],
-        line[3],
-        line[4],
-        line[5],
-    ) {
-        Some(instruction) => Ok(Row {
+
+    // One line as the row below another.
+    fn row(self, above: Row, line: [u16; 6], number: u8) -> Result<Row, Refusal>
+        ensures { result ≡ row_read self.counts (λ q. slice_index self.labels q) above.process above.label number line }
+    {
+        let [next, at, code, a, b, c] = line;
+        if !self.may_follow(above, next, at) {
+            return Err(Refusal::Order { line: number });
+        }
+        let scope = Scope {
+            counts: self.counts,
+            labels: self.labels[usize::from(next)],
+        };
+        let instruction = scope
+            .instruction([code, a, b, c])
+            .ok_or(Refusal::Operand { line: number })?;
+        Ok(Row {
             process: next as u8,
             label: at as u8,
             instruction,
-        }),
-        None => Err(Refusal::Operand { line: number }),
+        })
     }
-}
 
-// How many lines name each process.
-fn tally(lines: &[[u16; 6]]) -> [u8; 5]
-    requires { length lines.now ≤ 128 }
-    ensures { Counted result (named lines.now) }
-{
-    let mut labels = [0; 5];
-    for line in lines {
-        let process = usize::from(line[0]);
-        if process < 5 {
-            labels[process] += 1;
+    // The rows of the lines below a header, each judged below the one before.
+    fn rows(self, lines: &Lines) -> Result<ArrayVec<Row, MOST_ROWS>, Refusal>
+        requires { Counted self.labels (named (drop 1 lines.now.all.now.items)) }
+        ensures value { then_do result (λ rows. Ok rows.items) ≡ rows_read self.counts (named (drop 1 lines.now.all.now.items)) 0 0 2 (drop 1 lines.now.all.now.items) }
+        ensures labels { IfOk result (λ rows. Counted self.labels (labels_of rows.items)) }
+    {
+        let mut rows = ArrayVec::new();
+        // Process 0 stands before the first row, so process 1 follows it by the rule of any next process; an
+        // Option would be a case of its own.
+        let mut above = Row::default();
+        for (i, line) in lines.below().iter().enumerate() {
+            above = self.row(above, *line, (i + 2) as u8)?;
+            rows.push(above);
         }
+        Ok(rows)
     }
-    labels
-}
-
-// The rows of the lines below a header, each judged below the one before.
-fn fill(
-    counts: Counts,
-    labels: [u8; 5],
-    lines: &[[u16; 6]],
-    rows: &mut [Row; MOST_ROWS],
-) -> Result<(), Refusal>
-    requires { (length lines.now ≤ 128) × ((counts.processes ≤ 4) × (Counted labels (named lines.now))) }
-    ensures { then_do result (λ _. Ok (take (length lines.now) rows.new)) ≡ rows_read counts (named lines.now) 0 0 2 lines.now }
-{
-    let mut process = 0;
-    let mut label = 0;
-    for i in 0..lines.len() {
-        let next = row(counts, labels, process, label, lines[i], (i + 2) as u8)?;
-        process = next.process;
-        label = next.label;
-        rows[i] = next;
-    }
-    Ok(())
-}
-
-fn is_term(instruction: Instruction) -> bool
-    ensures { result ≡ is_term instruction }
-{
-    matches!(instruction, Instruction::Term)
 }
 
 // Each process's last row is TERM, and the last row is of the last process.
-fn check_ends(processes: u8, rows: &[Row]) -> Result<(), Refusal>
-    requires { (1 ≤ length rows.now) × (length rows.now ≤ 128) }
-    ensures { result ≡ ends_read processes 2 rows.now }
+fn check_ends(processes: u8, rows: &ArrayVec<Row, MOST_ROWS>) -> Result<(), Refusal>
+    ensures { result ≡ ends_read processes 2 rows.now.items }
 {
-    let count = rows.len();
-    for i in 1..count {
-        let above = rows[i - 1];
-        if above.process != rows[i].process && !is_term(above.instruction) {
+    for (i, [above, below]) in rows.array_windows::<2>().enumerate() {
+        if above.process != below.process && !above.is_term() {
             return Err(Refusal::NoTerm {
-                line: (i + 1) as u8,
+                line: (i + 2) as u8,
             });
         }
     }
-    let last = rows[count - 1];
-    let line = (count + 1) as u8;
-    if !is_term(last.instruction) {
-        return Err(Refusal::NoTerm { line });
+    let line = (rows.len() + 1) as u8;
+    match rows.last() {
+        Some(last) if !last.is_term() => Err(Refusal::NoTerm { line }),
+        Some(last) if last.process < processes => Err(Refusal::NoProcess { line }),
+        _ => Ok(()),
     }
-    if last.process < processes {
-        return Err(Refusal::NoProcess { line });
-    }
-    Ok(())
 }
 
-// How many lines a text has.
-fn count_lines(text: &[u8]) -> Result<usize, Refusal>
-    ensures value { result ≡ line_count text.now }
-    ensures bound { IfOk result (λ n. (2 ≤ n) × (n ≤ 129) × (25 * n ≡ length text.now)) }
-{
-    let count = text.len() / LINE;
-    if text.len() % LINE == 0 && count >= 2 && count <= MOST_LINES {
-        return Ok(count);
-    }
-    Err(Refusal::Length)
-}
-
-// The numbers of each line of a text.
-fn split(text: &[u8], into: &mut [[u16; 6]; MOST_LINES]) -> Result<usize, Refusal>
-    ensures value { then_do result (λ n. Ok (take n into.new)) ≡ lines_read text.now }
-    ensures bound { IfOk result (λ n. (2 ≤ n) × (n ≤ 129)) }
-{
-    let count = count_lines(text)?;
-    for i in 0..count {
-        let Some(numbers) = read_line::<6>(&text[LINE * i..LINE * i + LINE]) else {
-            return Err(Refusal::Field {
-                line: (i + 1) as u8,
-            });
-        };
-        into[i] = numbers;
-    }
-    Ok(count)
-}
-
-// What was read beside the rows: the counts, how many rows name each process, and how many there are.
-#[derive(Clone, Copy)]
+// What was read: the rows, and what they were judged by.
+#[derive(Drop)]
 pub(crate) struct Parsed {
-    pub(crate) counts: Counts,
-    pub(crate) labels: [u8; 5],
-    pub(crate) count: usize,
+    pub(crate) frame: Frame,
+    pub(crate) rows: ArrayVec<Row, MOST_ROWS>,
+    ghost counted: { Counted frame.labels (labels_of rows.items) },
+    ghost right: { proper (record { counts = frame.counts; rows = rows.items }) ≡ true },
 }
 
-// Reads a table's text into the front of the rows.
-pub(crate) fn parse(text: &[u8], rows: &mut [Row; MOST_ROWS]) -> Result<Parsed, Refusal>
-    ensures value { then_do result (λ t. Ok (record { counts = t.counts; rows = take t.count rows.new })) ≡ read text.now }
-    ensures bound { IfOk result (λ t. t.count ≤ 128) }
-    ensures labels { IfOk result (λ t. Counted t.labels (labels_of (take t.count rows.new))) }
+// Reads a table's text.
+pub(crate) fn parse(text: &[u8]) -> Result<Parsed, Refusal>
+    ensures { then_do result (λ t. Ok (record { counts = t.frame.counts; rows = t.rows.items })) ≡ read text.now }
 {
-    let mut lines = [[0; 6]; MOST_LINES];
-    let count = split(text, &mut lines)?;
-    let counts = header(lines[0], count - 1)?;
-    let labels = tally(&lines[1..count]);
-    fill(counts, labels, &lines[1..count], rows)?;
-    check_ends(counts.processes, &rows[0..count - 1])?;
-    Ok(Parsed {
-        counts,
-        labels,
-        count: count - 1,
-    })
+    let mut all = ArrayVec::new();
+    split(text, &mut all)?;
+    let lines = Lines { all: &all };
+    let frame = Frame {
+        counts: header(lines.header(), lines.below().len())?,
+        labels: lines.tally(),
+    };
+    let rows = frame.rows(&lines)?;
+    check_ends(frame.counts.processes, &rows)?;
+    Ok(Parsed { frame, rows })
 }

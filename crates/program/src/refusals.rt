@@ -21,7 +21,7 @@ pub enum Refusal {
 }
 
 // A buffer is shorter than a table's text, which has this length.
-#[derive(Clone, Copy)]
+#[derive(Clone, Copy, Debug, PartialEq, Eq)]
 pub struct Short {
     pub needed: usize,
 }
@@ -33,20 +33,20 @@ pub enum Part {
     Table,
 }
 
-// A refusal as it is told: its number, its place and the part that found it.
-#[derive(Clone, Copy)]
+// A refusal as it is told: its number, its place and the part that found it. The numbers are the format's, and
+// nothing goes by them: code goes by the cases of the refusal.
+#[derive(Clone, Copy, Debug, PartialEq, Eq)]
 pub struct Notice {
     pub number: u8,
     pub place: u8,
     pub part: Part,
 }
 
-impl Refusal {
-    // The number, the place and the part of this refusal.
-    pub fn notice(self) -> Notice
-        ensures { result ≡ notice self }
-    {
-        let (number, place, part) = match self {
+impl From<Refusal> for Notice {
+    ghost from_gives = { λ refusal told. told ≡ notice refusal };
+
+    fn from(refusal: Refusal) -> Notice {
+        let (number, place, part) = match refusal {
             Refusal::Length => (11, 0, Part::Text),
             Refusal::Field { line } => (12, line, Part::Text),
             Refusal::Header => (13, 1, Part::Table),

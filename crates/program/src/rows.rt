@@ -1,3 +1,6 @@
+ghost use Rattle.std.specs.Prelude.{◌≡◌};
+ghost use Rattle.program.specs.Program.{is_term};
+
 // How many bytes a line of a table's text has.
 pub(crate) const LINE: usize = 25;
 // The most rows of a table, its most lines with the header, and the most labels of a process.
@@ -9,7 +12,7 @@ pub(crate) const MOST_LABELS: u16 = 32;
 
 // What a process does at one label; each case has its own operands. Registers, variables and labels
 // count from 1.
-#[derive(Clone, Copy, Debug, PartialEq, Eq)]
+#[derive(Clone, Copy, Debug, Default, PartialEq, Eq)]
 pub enum Instruction {
     // The register gets the variable.
     Read { register: u8, variable: u8 },
@@ -28,19 +31,28 @@ pub enum Instruction {
     // A fence.
     Fence,
     // No step follows.
+    #[default]
     Term,
 }
 
 // One instruction of a table, with the process and the label that it belongs to.
-#[derive(Clone, Copy)]
+#[derive(Clone, Copy, Debug, Default, PartialEq, Eq)]
 pub struct Row {
     pub process: u8,
     pub label: u8,
     pub instruction: Instruction,
 }
 
+impl Row {
+    pub(crate) fn is_term(self) -> bool
+        ensures { result ≡ is_term self.instruction }
+    {
+        self.instruction == Instruction::Term
+    }
+}
+
 // How many processes, variables, registers of each process and values a program has.
-#[derive(Clone, Copy)]
+#[derive(Clone, Copy, Debug, Default, PartialEq, Eq)]
 pub struct Counts {
     pub processes: u8,
     pub variables: u8,

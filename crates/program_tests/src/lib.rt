@@ -5,108 +5,120 @@
 
 #[cfg(test)]
 mod tests {
-    use program::{Instruction, Table};
+    use program::{Instruction, Notice, Table};
     use std::alloc::Global;
     use std::process::Abort;
     use std::test::Fail;
     use text::write_line;
 
-    const PAD: [u16; 6] = [0; 6];
-
     const TERM: [u16; 6] = [1, 1, 9, 0, 0, 0];
 
-    // The first lines of a table, how many of the four are meant, and what is told of them: the
-    // number and the place of the refusal, zeros where the table is accepted.
+    // What is told of a text: that it is accepted, or the number and the place of the refusal.
+    type Told = Result<(), (u8, u8)>;
+
+    // The lines of a table, and what is told of them.
     #[derive(Clone, Copy)]
-    struct Case([[u16; 6]; 4], usize, (u8, u8));
+    struct Case {
+        lines: &'static [[u16; 6]],
+        told: Told,
+    }
 
     const CASES: [Case; 21] = [
-        Case([[1, 1, 1, 2, 1, 0], TERM, PAD, PAD], 2, (0, 0)),
+        Case {
+            lines: &[[1, 1, 1, 2, 1, 0], TERM],
+            told: Ok(()),
+        },
         // Each number of the header just outside its limits.
-        Case([[0, 1, 1, 2, 1, 0], TERM, PAD, PAD], 2, (13, 1)),
-        Case([[5, 1, 1, 2, 1, 0], TERM, PAD, PAD], 2, (13, 1)),
-        Case([[1, 5, 1, 2, 1, 0], TERM, PAD, PAD], 2, (13, 1)),
-        Case([[1, 1, 5, 2, 1, 0], TERM, PAD, PAD], 2, (13, 1)),
-        Case([[1, 1, 1, 1, 1, 0], TERM, PAD, PAD], 2, (13, 1)),
-        Case([[1, 1, 1, 9, 1, 0], TERM, PAD, PAD], 2, (13, 1)),
-        Case([[1, 1, 1, 2, 2, 0], TERM, PAD, PAD], 2, (13, 1)),
-        Case([[1, 1, 1, 2, 1, 1], TERM, PAD, PAD], 2, (13, 1)),
+        Case {
+            lines: &[[0, 1, 1, 2, 1, 0], TERM],
+            told: Err((13, 1)),
+        },
+        Case {
+            lines: &[[5, 1, 1, 2, 1, 0], TERM],
+            told: Err((13, 1)),
+        },
+        Case {
+            lines: &[[1, 5, 1, 2, 1, 0], TERM],
+            told: Err((13, 1)),
+        },
+        Case {
+            lines: &[[1, 1, 5, 2, 1, 0], TERM],
+            told: Err((13, 1)),
+        },
+        Case {
+            lines: &[[1, 1, 1, 1, 1, 0], TERM],
+            told: Err((13, 1)),
+        },
+        Case {
+            lines: &[[1, 1, 1, 9, 1, 0], TERM],
+            told: Err((13, 1)),
+        },
+        Case {
+            lines: &[[1, 1, 1, 2, 2, 0], TERM],
+            told: Err((13, 1)),
+        },
+        Case {
+            lines: &[[1, 1, 1, 2, 1, 1], TERM],
+            told: Err((13, 1)),
+        },
         // The first row is process 1, label 1; the others follow.
-        Case(
-            [[1, 1, 1, 2, 1, 0], [1, 2, 9, 0, 0, 0], PAD, PAD],
-            2,
-            (14, 2),
-        ),
-        Case(
-            [[2, 1, 1, 2, 1, 0], [2, 1, 9, 0, 0, 0], PAD, PAD],
-            2,
-            (14, 2),
-        ),
-        Case(
-            [[1, 1, 1, 2, 2, 0], TERM, [2, 1, 9, 0, 0, 0], PAD],
-            3,
-            (14, 3),
-        ),
+        Case {
+            lines: &[[1, 1, 1, 2, 1, 0], [1, 2, 9, 0, 0, 0]],
+            told: Err((14, 2)),
+        },
+        Case {
+            lines: &[[2, 1, 1, 2, 1, 0], [2, 1, 9, 0, 0, 0]],
+            told: Err((14, 2)),
+        },
+        Case {
+            lines: &[[1, 1, 1, 2, 2, 0], TERM, [2, 1, 9, 0, 0, 0]],
+            told: Err((14, 3)),
+        },
         // No such register, constant, instruction; an operand that should be 0.
-        Case(
-            [[1, 1, 1, 2, 1, 0], [1, 1, 1, 2, 1, 0], PAD, PAD],
-            2,
-            (15, 2),
-        ),
-        Case(
-            [[1, 1, 1, 2, 1, 0], [1, 1, 4, 1, 2, 0], PAD, PAD],
-            2,
-            (15, 2),
-        ),
-        Case(
-            [[1, 1, 1, 2, 1, 0], [1, 1, 10, 0, 0, 0], PAD, PAD],
-            2,
-            (15, 2),
-        ),
-        Case(
-            [[1, 1, 1, 2, 1, 0], [1, 1, 9, 0, 0, 1], PAD, PAD],
-            2,
-            (15, 2),
-        ),
+        Case {
+            lines: &[[1, 1, 1, 2, 1, 0], [1, 1, 1, 2, 1, 0]],
+            told: Err((15, 2)),
+        },
+        Case {
+            lines: &[[1, 1, 1, 2, 1, 0], [1, 1, 4, 1, 2, 0]],
+            told: Err((15, 2)),
+        },
+        Case {
+            lines: &[[1, 1, 1, 2, 1, 0], [1, 1, 10, 0, 0, 0]],
+            told: Err((15, 2)),
+        },
+        Case {
+            lines: &[[1, 1, 1, 2, 1, 0], [1, 1, 9, 0, 0, 1]],
+            told: Err((15, 2)),
+        },
         // An operand higher up comes before an order further down.
-        Case(
-            [
-                [1, 1, 1, 2, 2, 0],
-                [1, 1, 4, 1, 2, 0],
-                [1, 3, 9, 0, 0, 0],
-                PAD,
-            ],
-            3,
-            (15, 2),
-        ),
+        Case {
+            lines: &[[1, 1, 1, 2, 2, 0], [1, 1, 4, 1, 2, 0], [1, 3, 9, 0, 0, 0]],
+            told: Err((15, 2)),
+        },
         // A label is one of the row's own process: it has one here, and the other process two.
-        Case(
-            [
+        Case {
+            lines: &[
                 [2, 1, 1, 2, 3, 0],
                 [1, 1, 6, 1, 1, 2],
                 [2, 1, 8, 0, 0, 0],
                 [2, 2, 9, 0, 0, 0],
             ],
-            4,
-            (15, 2),
-        ),
+            told: Err((15, 2)),
+        },
         // The lowest process that does not end in TERM, then a process without rows.
-        Case(
-            [
-                [2, 1, 1, 2, 2, 0],
-                [1, 1, 8, 0, 0, 0],
-                [2, 1, 8, 0, 0, 0],
-                PAD,
-            ],
-            3,
-            (16, 2),
-        ),
-        Case(
-            [[2, 1, 1, 2, 2, 0], TERM, [2, 1, 8, 0, 0, 0], PAD],
-            3,
-            (16, 3),
-        ),
-        Case([[2, 1, 1, 2, 1, 0], TERM, PAD, PAD], 2, (16, 2)),
+        Case {
+            lines: &[[2, 1, 1, 2, 2, 0], [1, 1, 8, 0, 0, 0], [2, 1, 8, 0, 0, 0]],
+            told: Err((16, 2)),
+        },
+        Case {
+            lines: &[[2, 1, 1, 2, 2, 0], TERM, [2, 1, 8, 0, 0, 0]],
+            told: Err((16, 3)),
+        },
+        Case {
+            lines: &[[2, 1, 1, 2, 1, 0], TERM],
+            told: Err((16, 2)),
+        },
     ];
 
     // Adds a line of six numbers to a text.
@@ -125,14 +137,11 @@ mod tests {
         Ok(text)
     }
 
-    fn told(table: &mut Table, text: &[u8]) -> (u8, u8) {
-        match table.read(text) {
-            Ok(()) => (0, 0),
-            Err(refusal) => {
-                let notice = refusal.notice();
-                (notice.number, notice.place)
-            }
-        }
+    fn told(table: &mut Table, text: &[u8]) -> Told {
+        table.read(text).map_err(|refusal| {
+            let notice = Notice::from(refusal);
+            (notice.number, notice.place)
+        })
     }
 
     #[test]
@@ -140,11 +149,8 @@ mod tests {
         let heap = rt.alloc();
         let mut table = Table::empty(heap)?;
         for case in CASES {
-            let mut text = Vec::new(heap);
-            for line in case.0.iter().take(case.1) {
-                add_line(&rt, &mut text, line)?;
-            }
-            assert_eq!(rt; told(&mut table, text.as_slice()), case.2);
+            let text = text_of(&rt, heap, case.lines)?;
+            assert_eq!(rt; told(&mut table, text.as_slice()), case.told);
             // The table of the first case is still there.
             assert_eq!(rt; table.instruction(1, 1), Some(Instruction::Term));
         }
@@ -154,14 +160,17 @@ mod tests {
     #[test]
     fn refused_by_length_and_fields(rt: HostRuntime) -> Result<(), Fail> {
         let mut table = Table::empty(rt.alloc())?;
-        assert_eq!(rt; told(&mut table, b""), (11, 0));
-        assert_eq!(rt; told(&mut table, b"   1   1   1   2   1   0\n"), (11, 0));
+        assert_eq!(rt; told(&mut table, b""), Err((11, 0)));
+        assert_eq!(rt;
+            told(&mut table, b"   1   1   1   2   1   0\n"),
+            Err((11, 0))
+        );
         assert_eq!(rt;
             told(
                 &mut table,
                 b"   1   1   1   2   1   0\n   1   1   9   0   0  00\n",
             ),
-            (12, 2)
+            Err((12, 2))
         );
         // A wrong line end further down comes before a wrong header.
         assert_eq!(rt;
@@ -169,7 +178,7 @@ mod tests {
                 &mut table,
                 b"   9   1   1   2   1   0\n   1   1   9   0   0   0 ",
             ),
-            (12, 2)
+            Err((12, 2))
         );
         assert!(rt; table.is_empty());
         Ok(())
@@ -193,12 +202,12 @@ mod tests {
         let mut table = Table::empty(heap)?;
         assert_eq!(rt;
             told(&mut table, longest(&rt, heap, 33)?.as_slice()),
-            (11, 0)
+            Err((11, 0))
         );
         assert_eq!(rt; table.instruction(1, 1), None);
         assert_eq!(rt;
             told(&mut table, longest(&rt, heap, 32)?.as_slice()),
-            (0, 0)
+            Ok(())
         );
         assert_eq!(rt; table.rows().len(), 128);
         assert_eq!(rt; table.labels(4), 32);
@@ -209,7 +218,7 @@ mod tests {
                 &mut table,
                 text_of(&rt, heap, &[[1, 1, 1, 2, 1, 0], TERM])?.as_slice(),
             ),
-            (0, 0)
+            Ok(())
         );
         assert_eq!(rt; table.labels(2), 0);
         assert_eq!(rt; table.instruction(1, 1), Some(Instruction::Term));
@@ -266,11 +275,9 @@ mod tests {
     fn every_instruction(rt: HostRuntime) -> Result<(), Fail> {
         let text = text_of(&rt, rt.alloc(), &NINE)?;
         let mut table = Table::empty(rt.alloc())?;
-        assert_eq!(rt; told(&mut table, text.as_slice()), (0, 0));
-        let mut label = 1u8;
-        for instruction in ALL {
+        assert_eq!(rt; told(&mut table, text.as_slice()), Ok(()));
+        for (label, instruction) in (1u8..).zip(ALL) {
             assert_eq!(rt; table.instruction(1, label), Some(instruction));
-            label = label.saturating_add(1);
         }
         let mut out = [7; 251];
         assert!(rt; matches!(table.write(&mut out), Ok(250)));

@@ -5,8 +5,8 @@ ghost use Rattle.program.specs.Reading.{read};
 ghost use Rattle.program.specs.Tables.{program};
 ghost use Rattle.rereading.specs.Turns.{repeated};
 
-use program::{Refusal, Table};
-use std::io::Read;
+use intake::{number_or, read_all};
+use program::{Notice, Refusal, Table};
 use std::{env, io};
 
 // Reads a table's text into one table over and over, and tells what came of it.
@@ -26,47 +26,27 @@ struct Outcomes {
 fn reread(table: &mut Table, text: &[u8], turns: u32) -> Outcomes
     ensures { (result, program table.new) ≡ repeated (program table.old) (read text.now) turns }
 {
-    let mut accepted = 0;
-    let mut refused = 0;
-    let mut last = None;
+    let mut outcomes = Outcomes {
+        accepted: 0,
+        refused: 0,
+        last: None,
+    };
     for _turn in 0..turns {
         match table.read(text) {
-            Ok(()) => accepted += 1,
+            Ok(()) => outcomes.accepted += 1,
             Err(refusal) => {
-                refused += 1;
-                last = Some(refusal);
+                outcomes.refused += 1;
+                outcomes.last = Some(refusal);
             }
         }
     }
-    Outcomes {
-        accepted,
-        refused,
-        last,
-    }
-}
-
-// The number that the first argument is.
-fn wanted_turns(rt: &HostRuntime) -> io::Result<u32> {
-    let mut args = env::args(rt)?;
-    let _ = args.next();
-    let turns = match args.next() {
-        Some(word) => word.as_str().parse::<u32>().unwrap_or(TURNS),
-        None => TURNS,
-    };
-    Ok(turns)
-}
-
-// The whole of the standard input.
-fn input(rt: &HostRuntime) -> io::Result<Vec<u8>> {
-    let mut text = Vec::new(rt.alloc());
-    rt.stdin().read_to_end(&mut text)?;
-    Ok(text)
+    outcomes
 }
 
 // Prints the line that tells the outcomes.
 fn tell(rt: &HostRuntime, table: &Table, outcomes: Outcomes) -> io::Result<()> {
     if let Some(refusal) = outcomes.last {
-        let notice = refusal.notice();
+        let notice = Notice::from(refusal);
         let times = outcomes.refused;
         let number = notice.number;
         let place = notice.place;
@@ -82,8 +62,8 @@ fn tell(rt: &HostRuntime, table: &Table, outcomes: Outcomes) -> io::Result<()> {
 }
 
 fn main(rt: HostRuntime) -> io::Result<()> {
-    let turns = wanted_turns(&rt)?;
-    let text = input(&rt)?;
+    let turns = number_or(env::args(&rt)?.nth(1), TURNS);
+    let text = read_all(rt.alloc(), &mut rt.stdin())?;
     let mut table = Table::empty(rt.alloc())?;
     let outcomes = reread(&mut table, text.as_slice(), turns);
     tell(&rt, &table, outcomes)

@@ -1,41 +1,48 @@
-use Rattle.std.proofs.Common.{◌≡◌, ◌<◌, true, [], length, get_or, ap, ◌∙◌, arith}
-use Rattle.std.proofs.ByRecursion.{All-get_or}
-use Rattle.text.specs.Lines.{all_small}
-use Rattle.text.proofs.Lines.{small_is_all}
-use Rattle.program.specs.Program.{Six}
-use Rattle.program.specs.Tables.{program, lines_of}
-use Rattle.program.proofs.Pages.{lines_six, text_back, page_more, page_short, page_all}
+use Rattle.std.proofs.Common.{◌≡◌, ℕ, false, eqb, sym, ap, ◌∙◌, arith, vec_len}
+use Rattle.program.specs.declared.tables.Table.{Table}
+use Rattle.program.specs.Program.{is_nothing}
+use Rattle.program.specs.Tables.{program}
+use Rattle.program.proofs.Pages.{text_back, row_small, first_line, next_line, page_short, page_all}
 use Rattle.program.proofs.tables.Table.write.Goals as goal
 
-pub returns-then-out-needed : goal.returns-then-out-needed
-returns-then-out-needed c =
-    let t = c.args.self.now in
-    record {
-      value = page_short (program t) t.keeps c.args.out.now c.line_count-count.result c.line_count-count.ensures.value c.if-out-needed.true;
-      back = text_back (program t) t.keeps;
-    }
+module _ (t : Table) (e : false ≡ eqb (vec_len t.rows) 0) where
+  some : is_nothing (program t) ≡ false
+  some = sym (e ∙ ap (λ (n : ℕ). eqb n 0) t.rows.ok.0)
 
-pub put-requires : goal.put-requires
-put-requires c =
+pub returns-then-out-needed-clause-value : goal.returns-then-out-needed-clause-value
+returns-then-out-needed-clause-value c =
     let t = c.args.self.now in
-    let fs = lines_of (program t) in
-    let i = c.loop-i.i in
-    let low : i < length fs = omega (arith, c.line_count-count.ensures.value) in
-    let small : all_small (get_or fs i []) ≡ true = small_is_all (get_or fs i []) (All-get_or Six fs i [] low (lines_six (program t) t.keeps)).1 in
-    (ap all_small c.line.ensures ∙ small, omega arith)
+    let long = c.len.ensures ∙ t.rows.ok.0 in
+    rw long (page_short (program t) t.keeps (some t c.if-is_empty.ensures) c.args.out.now (omega arith))
+
+pub loop-i-init : goal.loop-i-init
+loop-i-init c =
+    let t = c.args.self.now in
+    let long = c.len-2.ensures ∙ t.rows.ok.0 in
+    first_line (program t) t.keeps (some t c.if-is_empty.ensures) c.args.out.now c.put.new.out (cc)
+
+pub put-requires-in-loop-i : goal.put-requires-in-loop-i
+put-requires-in-loop-i c =
+    let t = c.args.self.now in
+    let rows = c.deref-row-items.ensures.value in
+    let line = rw rows at c.from.ensures in
+    (row_small (program t) t.keeps (some t c.if-is_empty.ensures) c.from.result c.loop-i.i _ line (omega arith), omega arith)
 
 pub loop-i-preserved : goal.loop-i-preserved
 loop-i-preserved c =
     let t = c.args.self.now in
-    let fs = lines_of (program t) in
-    let i = c.loop-i.i in
-    let low : i < length fs = omega (arith, c.line_count-count.ensures.value) in
-    page_more fs (lines_six (program t) t.keeps) c.args.out.now c.loop-i.out i low c.loop-i.invariant c.line.result c.put.new.out c.line.ensures c.put.ensures
+    let rows = c.deref-row-items.ensures.value in
+    let line = rw rows at c.from.ensures in
+    next_line (program t) t.keeps (some t c.if-is_empty.ensures) c.args.out.now c.loop-i.out c.put-in-loop-i.new.out c.from.result c.loop-i.i _ line (omega arith) c.loop-i.invariant c.put-in-loop-i.ensures
 
-pub returns : goal.returns
-returns c =
+pub returns-clause-value : goal.returns-clause-value
+returns-clause-value c =
     let t = c.args.self.now in
-    record {
-      value = page_all (program t) t.keeps c.args.out.now c.line_count-count.result c.loop-i.i c.loop-i.out c.line_count-count.ensures.value c.if-out-needed.false c.loop-i-test.false c.loop-i.invariant (omega arith);
-      back = text_back (program t) t.keeps;
-    }
+    let long = c.len.ensures ∙ t.rows.ok.0 in
+    rw long (page_all (program t) t.keeps (some t c.if-is_empty.ensures) c.args.out.now c.loop-i.i c.loop-i.out (omega arith) (omega arith) c.loop-i.invariant)
+
+pub returns-clause-back : goal.returns-clause-back
+returns-clause-back c = text_back (program c.args.self.now) c.args.self.now.keeps
+
+pub returns-then-out-needed-clause-back : goal.returns-then-out-needed-clause-back
+returns-then-out-needed-clause-back c = text_back (program c.args.self.now) c.args.self.now.keeps
