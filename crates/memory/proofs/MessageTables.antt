@@ -1,51 +1,46 @@
 -- Lists of timestamps and messages as views and pools.
-use Rattle.std.proofs.Common.{◌≡◌, ℕ, zero, suc, ◌+◌, ◌<◌, ◌≤◌, max, true, false, cond, ◌&&◌, eqb, ltb, leb, List, [], ◌∷◌, length, get_or, set, replicate, Some, None, Option, sym, refl, ap, ◌∙◌, ap₂, inl, inr, ⊎_elim, add-one, arith, length-set, get_or-set_other, get_or-set_same}
+use Rattle.std.proofs.Common.{Bool, ◌≡◌, ℕ, zero, suc, ◌<◌, ◌≤◌, max, cond, ◌&&◌, eqb, ltb, leb, List, [], ◌∷◌, length, get_or, set, replicate, Some, None, Option, sym, refl, ap, ◌∙◌, ap₂, inl, inr, ⊎_elim, add-one, arith, length-take, take, ◌++◌, ◌||◌, get_or-set_other, get_or-set_same}
 use mathlib.Core.Path.{fun_ext}
-use Rattle.std.proofs.lemmas.Bool.{cases_lt, cases_eq, cases_order, eq-eqb, ne_eqb, le-leb, lt-leb, lt-ltb, le-ltb, cond-true, cond-false, or_left, or_right, and_right}
-use Rattle.std.proofs.lemmas.List.{get_or_past, get_or-replicate}
+use Rattle.std.proofs.lemmas.Bool.{cases_lt, cases_eq, eq-eqb, ne_eqb, le-leb, lt-leb, cond-true, cond-false, and_right}
+use Rattle.std.proofs.lemmas.List.{get_or_past, get_or-replicate, take_more}
 use Rattle.memory.specs.declared.messages.Message.{Message as Kept}
 use Rattle.memory.specs.declared.shapes.Shape.{Shape}
-use Rattle.memory.specs.Updates.{update}
-use Rattle.memory.specs.Rules.{View, Message, Pool, nought, first, first_pool, join, put, turn, raise, changes_below, start, adds}
-use Rattle.memory.specs.MessageTable.{view_of, message_of, slot_of, pool_of, views_of, upto}
+use Rattle.memory.specs.declared.views.View.{View as Times}
+use Rattle.std.specs.List.{list_any, zip}
+use Rattle.std.proofs.Math.Bool.{or-false}
+use Rattle.std.proofs.lemmas.List.Folds.{list_any-append}
+use Rattle.memory.specs.Rules.{View, Message, Pool, nought, first, first_pool, join, put, turn, changes_below, start, adds}
+use Rattle.memory.specs.MessageTable.{view_of, message_of, slot_of, row_of, pool_of, views_of, upto}
 
-set_updates : {A : Type 0} (l : List A) (i : ℕ) (a d : A) → i < length l → (λ j. get_or (set l i a) j d) ≡ update (λ k. get_or l k d) i a
-set_updates l i a d h = fun_ext (λ j. ⊎_elim
-    (λ e. ap (λ k. get_or (set l i a) k d) e ∙ (get_or-set_same l i a d h ∙ sym (cond-true (eqb j i) a (get_or l j d) (eq-eqb j i e))))
-    (λ n. get_or-set_other l i j a d n ∙ sym (cond-false (eqb j i) a (get_or l j d) (ne_eqb j i n)))
-    (cases_eq j i))
+-- an entry below another, among the first n of two lists
+zip_push : (xs ys : List ℕ) (x : ℕ) → length xs < length ys → zip (xs ++ (x ∷ [])) ys ≡ zip xs ys ++ ((x, get_or ys (length xs) 0) ∷ [])
+zip_push xs [] x h = absurd (omega arith)
+zip_push [] (y ∷ ys) x h = refl
+zip_push (w ∷ xs) (y ∷ ys) x h = ap (λ l. (w, y) ∷ l) (zip_push xs ys x (omega arith))
 
--- joining w changes v somewhere, or nowhere so far
-pub changes_at : (n i : ℕ) (v w : View) → i < n → v i < w i → changes_below n v w ≡ true
-changes_at zero i v w l h = absurd (omega arith)
-changes_at (suc n) i v w l h = ⊎_elim
-    (λ k. or_left (changes_below n v w) (ltb (v n) (w n)) (changes_at n i v w k h))
-    (λ k. let e : i ≡ n = omega arith in
-    or_right (changes_below n v w) (ltb (v n) (w n)) (ap (λ j. ltb (v j) (w j)) (sym e) ∙ lt-ltb (v i) (w i) h))
-    (cases_lt i n)
+abbrev less : ℕ × ℕ → Bool
+less p = ltb p.0 p.1
 
-pub changes_more : (i : ℕ) (v w : View) → changes_below i v w ≡ false → w i ≤ v i → changes_below (i + 1) v w ≡ false
-changes_more i v w so_far h = rw (add-one, so_far, le-ltb (v i) (w i) h)
+pub changes_zip : (n : ℕ) (a b : List ℕ) → n ≤ length a → n ≤ length b
+    → list_any less (zip (take n a) b) ≡ changes_below n (λ x. get_or a x 0) (λ x. get_or b x 0)
+changes_zip zero a b ha hb = refl
+changes_zip (suc n) a b ha hb =
+    let long : length (take n a) ≡ n = omega (arith, length-take n a) in
+    let more : take (suc n) a ≡ take n a ++ (get_or a n 0 ∷ []) = rw (← add-one) (take_more a n 0 (omega arith)) in
+    ap (λ l. list_any less (zip l b)) more
+    ∙ (ap (list_any less) (zip_push (take n a) b (get_or a n 0) (omega (arith, long)))
+    ∙ (list_any-append less (zip (take n a) b) ((get_or a n 0, get_or b (length (take n a)) 0) ∷ [])
+    ∙ ap₂ (λ u w. u || w) (changes_zip n a b (omega arith) (omega arith))
+    (or-false (less (get_or a n 0, get_or b (length (take n a)) 0)) ∙ ap (λ k. less (get_or a n 0, get_or b k 0)) long)))
 
 -- five maxima are the join of two views
-module _ (a b : List ℕ) (m0 m1 m2 m3 m4 : ℕ) (la : length a ≡ 5) (lb : length b ≡ 5)
-    (e0 : m0 ≡ max (get_or a 0 0) (get_or b 0 0)) (e1 : m1 ≡ max (get_or a 1 0) (get_or b 1 0)) (e2 : m2 ≡ max (get_or a 2 0) (get_or b 2 0))
-    (e3 : m3 ≡ max (get_or a 3 0) (get_or b 3 0)) (e4 : m4 ≡ max (get_or a 4 0) (get_or b 4 0)) where
-  joined_at : (x : ℕ) → get_or (m0 ∷ m1 ∷ m2 ∷ m3 ∷ m4 ∷ []) x 0 ≡ max (get_or a x 0) (get_or b x 0)
-  joined_at zero = e0
-  joined_at (suc zero) = e1
-  joined_at (suc (suc zero)) = e2
-  joined_at (suc (suc (suc zero))) = e3
-  joined_at (suc (suc (suc (suc zero)))) = e4
-  joined_at (suc (suc (suc (suc (suc x))))) =
-      let la' : length a ≤ suc (suc (suc (suc (suc x)))) = omega arith in
-      let lb' : length b ≤ suc (suc (suc (suc (suc x)))) = omega arith in
-      let pa = get_or_past a (suc (suc (suc (suc (suc x))))) 0 la' in
-      let pb = get_or_past b (suc (suc (suc (suc (suc x))))) 0 lb' in
-      sym (ap₂ max pa pb)
-
-  pub joined_view : view_of (m0 ∷ m1 ∷ m2 ∷ m3 ∷ m4 ∷ []) ≡ join (view_of a) (view_of b)
-  joined_view = fun_ext joined_at
+pub joined_view : (times a b : List ℕ) → length times ≡ 5 → length a ≡ 5 → length b ≡ 5
+    → ((x : ℕ) → x < 5 → get_or times x 0 ≡ max (get_or a x 0) (get_or b x 0))
+    → view_of (record { times = times }) ≡ join (view_of (record { times = a })) (view_of (record { times = b }))
+joined_view times a b l la lb each = fun_ext (λ x. ⊎_elim
+    (each x)
+    (λ h. get_or_past times x 0 (omega (arith, l)) ∙ sym (ap₂ max (get_or_past a x 0 (omega (arith, la))) (get_or_past b x 0 (omega (arith, lb)))))
+    (cases_lt x 5))
 
 -- a write to the table is a put
 module _ (table : List (List (Option Kept))) (x t : ℕ) (m : Kept) (row : x < length table) (column : t < length (get_or table x [])) where
@@ -72,75 +67,30 @@ module _ (table : List (List (Option Kept))) (x t : ℕ) (m : Kept) (row : x < l
   pub table_put : pool_of new ≡ put (pool_of table) x t (message_of m)
   table_put = fun_ext (λ y. fun_ext (λ u. put_at y u))
 
--- five rows of 25
-abbrev pub Wide : List (List (Option Kept)) → Type 0
-Wide table = (length table ≡ 5) × ((x : ℕ) → x < 5 → length (get_or table x []) ≡ 25)
+none_in : (n t : ℕ) → slot_of (get_or (replicate n None) t None) ≡ None
+none_in zero t = refl
+none_in (suc n) zero = refl
+none_in (suc n) (suc t) = none_in n t
 
-pub wide_set : (table : List (List (Option Kept))) (x t : ℕ) (o : Option Kept) → Wide table → x < 5
-    → Wide (set table x (set (get_or table x []) t o))
-wide_set table x t o w h = (
-  length-set table x (set (get_or table x []) t o) ∙ w.0,
-  λ y l. ⊎_elim
-      (λ e. ap (λ z. length (get_or (set table x (set (get_or table x []) t o)) z [])) e
-      ∙ (ap length (get_or-set_same table x (set (get_or table x []) t o) [] (omega (arith, w.0)))
-      ∙ (length-set (get_or table x []) t o ∙ w.1 x h)))
-      (λ n. ap length (get_or-set_other table x y (set (get_or table x []) t o) [] n) ∙ w.1 y l)
-      (cases_eq y x),
-)
-
-pub wide_none : (table : List (List (Option Kept))) → table ≡ replicate 5 (replicate 25 None) → Wide table
-wide_none table e = (ap length e, λ x h. ap (λ l. length (get_or l x [])) e ∙ ap length (get_or-replicate 5 x (replicate 25 None) [] h))
-
--- zeros are the view at the start
-zeros_at : (n x : ℕ) → get_or {A = ℕ} (replicate n 0) x 0 ≡ 0
-zeros_at zero x = refl
-zeros_at (suc n) zero = refl
-zeros_at (suc n) (suc x) = zeros_at n x
-
-pub zeros : (v : List ℕ) → v ≡ replicate 5 0 → view_of v ≡ nought
-zeros v e = fun_ext (λ x. ap (λ l. get_or l x 0) e ∙ zeros_at 5 x)
-
--- the first messages of the variables below n
-abbrev pub first_below : ℕ → Pool
-first_below n = λ x t. cond (ltb x n && eqb t 0) (Some first) None
-
-nowhere : (table : List (List (Option Kept))) → table ≡ replicate 5 (replicate 25 None) → (x t : ℕ) → pool_of table x t ≡ None
-nowhere table e x t = ap (λ l. pool_of l x t) e ∙ ⊎_elim
-    (λ h. ap (λ row. slot_of (get_or row t None)) (get_or-replicate 5 x (replicate 25 None) [] h) ∙ ap slot_of (empty 25 t))
-    (λ h. ap (λ row. slot_of (get_or row t None)) (get_or_past (replicate 5 (replicate 25 None)) x [] h))
-    (cases_lt x 5)
+pub row_first : (V x : ℕ) (v : Times) → view_of v ≡ nought → x ≤ V
+    → row_of (Some (record { value = 0; view = v }) ∷ replicate 24 None) ≡ first_pool V x
+row_first V x v z h = fun_ext at
   where
-    empty : (n u : ℕ) → get_or {A = Option Kept} (replicate n None) u None ≡ None
-    empty zero u = refl
-    empty (suc n) zero = refl
-    empty (suc n) (suc u) = empty n u
+    at : (t : ℕ) → row_of (Some (record { value = 0; view = v }) ∷ replicate 24 None) t ≡ first_pool V x t
+    at zero = rw (le-leb x V h) (ap (λ w. Some (record { value = 0; view = w })) z)
+    at (suc t) = rw (le-leb x V h, ne_eqb (suc t) 0 (λ q. omega arith)) (none_in 24 t)
 
-pub first_none : (table : List (List (Option Kept))) → table ≡ replicate 5 (replicate 25 None) → pool_of table ≡ first_below 0
-first_none table e = fun_ext (λ x. fun_ext (λ t.
-    nowhere table e x t ∙ sym (cond-false (ltb x 0 && eqb t 0) (Some first) None (rw (le-ltb x 0 (omega arith))))))
+pub row_none : (V x : ℕ) → V < x → row_of (replicate 25 None) ≡ first_pool V x
+row_none V x h = fun_ext (λ t. rw (lt-leb x V h) (none_in 25 t))
 
-first_more_at : (n x t : ℕ) → put (first_below n) n 0 first x t ≡ first_below (n + 1) x t
-first_more_at n x t = ⊎_elim
-    (λ e. rw (eq-eqb x n e, lt-ltb x (n + 1) (omega arith), le-ltb x n (omega arith)))
-    (λ e. ⊎_elim
-    (λ l. rw (ne_eqb x n (λ q. omega arith), lt-ltb x (n + 1) (omega arith), lt-ltb x n l))
-    (λ g. rw (ne_eqb x n (λ q. omega arith), le-ltb x (n + 1) (omega arith), le-ltb x n (omega arith)))
-    e)
-    (cases_order x n)
-
-pub first_more : (pool : Pool) (n : ℕ) (v : List ℕ) → v ≡ replicate 5 0 → pool ≡ first_below n
-    → put pool n 0 (record { value = 0; view = view_of v }) ≡ first_below (n + 1)
-first_more pool n v z e =
-    ap₂ (λ (P : Pool) (w : View). put P n 0 (record { value = 0; view = w })) e (zeros v z) ∙ fun_ext (λ x. fun_ext (λ t. first_more_at n x t))
-
-pub first_all : (V : ℕ) → first_below (V + 1) ≡ first_pool V
-first_all V = fun_ext (λ x. fun_ext (λ t. ap (λ b. cond (b && eqb t 0) (Some first) None) (same x)))
-  where
-    same : (x : ℕ) → ltb x (V + 1) ≡ leb x V
-    same x = ⊎_elim
-        (λ l. lt-ltb x (V + 1) l ∙ sym (le-leb x V (omega arith)))
-        (λ g. le-ltb x (V + 1) g ∙ sym (lt-leb x V (omega arith)))
-        (cases_lt x (V + 1))
+-- The first messages, row by row.
+pub rows_first : (V : ℕ) (table : List (List (Option Kept))) → V ≤ 4 → length table ≡ 5
+    → ((x : ℕ) → x < 5 → row_of (get_or table x []) ≡ first_pool V x) → pool_of table ≡ first_pool V
+rows_first V table small long each = fun_ext (λ x. ⊎_elim
+    (each x)
+    (λ h. ap row_of (get_or_past table x [] (omega (arith, long)))
+    ∙ fun_ext (λ t. sym (ap (λ b. cond (b && eqb t 0) (Some first) None) (lt-leb x V (omega arith)))))
+    (cases_lt x 5))
 
 -- what is cut off at a timestamp
 pub upto_first : (n V : ℕ) → upto n (first_pool V) ≡ first_pool V
@@ -167,36 +117,33 @@ upto_put n pool x t m h = fun_ext (λ y. fun_ext (λ u. at y u))
         (λ e. rw (ne_eqb y x e))
         (cases_eq y x)
 
--- writes to a view and to the views
-pub view_raise : (v : List ℕ) (x t : ℕ) → x < length v → view_of (set v x t) ≡ raise (view_of v) x t
-view_raise v x t h = set_updates v x t 0 h
-
-pub views_turn : (vs : List (List ℕ)) (p : ℕ) (v : List ℕ) → p < length vs → views_of (set vs p v) ≡ turn (views_of vs) p (view_of v)
+-- writes to the views
+pub views_turn : (vs : List Times) (p : ℕ) (v : Times) → p < length vs → views_of (set vs p v) ≡ turn (views_of vs) p (view_of v)
 views_turn vs p v h = fun_ext (λ q. at q)
   where
-    at : (q : ℕ) → view_of (get_or (set vs p v) q []) ≡ turn (views_of vs) p (view_of v) q
+    at : (q : ℕ) → view_of (get_or (set vs p v) q (record { times = [] })) ≡ turn (views_of vs) p (view_of v) q
     at q = ⊎_elim
-        (λ e. ap (λ k. view_of (get_or (set vs p v) k [])) e
-        ∙ (ap view_of (get_or-set_same vs p v [] h) ∙ sym (cond-true (eqb q p) (view_of v) (views_of vs q) (eq-eqb q p e))))
-        (λ n. ap view_of (get_or-set_other vs p q v [] n) ∙ sym (cond-false (eqb q p) (view_of v) (views_of vs q) (ne_eqb q p n)))
+        (λ e. ap (λ k. view_of (get_or (set vs p v) k (record { times = [] }))) e
+        ∙ (ap view_of (get_or-set_same vs p v (record { times = [] }) h) ∙ sym (cond-true (eqb q p) (view_of v) (views_of vs q) (eq-eqb q p e))))
+        (λ n. ap view_of (get_or-set_other vs p q v (record { times = [] }) n) ∙ sym (cond-false (eqb q p) (view_of v) (views_of vs q) (ne_eqb q p n)))
         (cases_eq q p)
 
-pub views_start : (vs : List (List ℕ)) → vs ≡ replicate 5 (replicate 5 0) → views_of vs ≡ (λ p. nought)
-views_start vs e = fun_ext (λ p. ap (λ l. view_of (get_or l p [])) e ∙ ⊎_elim
-    (λ h. ap view_of (get_or-replicate 5 p (replicate 5 0) [] h) ∙ zeros (replicate 5 0) refl)
-    (λ h. ap view_of (get_or_past (replicate 5 (replicate 5 0)) p [] h))
+views_start : (v : Times) → view_of v ≡ nought → views_of (replicate 5 v) ≡ (λ p. nought)
+views_start v e = fun_ext (λ p. ⊎_elim
+    (λ h. ap view_of (get_or-replicate 5 p v (record { times = [] }) h) ∙ e)
+    (λ h. ap view_of (get_or_past (replicate 5 v) p (record { times = [] }) h))
     (cases_lt p 5))
 
 -- a new memory
-pub started : (shape : Shape) (vs : List (List ℕ)) (table : List (List (Option Kept))) → vs ≡ replicate 5 (replicate 5 0)
+pub started : (shape : Shape) (v : Times) (table : List (List (Option Kept))) → view_of v ≡ nought
     → pool_of table ≡ first_pool shape.variables
-    → record { pool = upto shape.ceiling (pool_of table); views = views_of vs } ≡ start shape.variables
-started shape vs table z e =
+    → record { pool = upto shape.ceiling (pool_of table); views = views_of (replicate 5 v) } ≡ start shape.variables
+started shape v table z e =
     ap₂ (λ (P : Pool) (ws : ℕ → View). record { pool = P; views = ws })
-    (ap (upto shape.ceiling) e ∙ upto_first shape.ceiling shape.variables) (views_start vs z)
+    (ap (upto shape.ceiling) e ∙ upto_first shape.ceiling shape.variables) (views_start v z)
 
 -- a message posted in the table
-pub post_store : (n : ℕ) (vs : List (List ℕ)) (table : List (List (Option Kept))) (p x t : ℕ) (m : Kept)
+pub post_store : (n : ℕ) (vs : List Times) (table : List (List (Option Kept))) (p x t : ℕ) (m : Kept)
     → p < length vs → x < length table → t < length (get_or table x []) → t ≤ n
     → record { pool = upto n (pool_of (set table x (set (get_or table x []) t (Some m)))); views = views_of (set vs p m.view) }
     ≡ adds (record { pool = upto n (pool_of table); views = views_of vs }) p x t m.value (view_of m.view)

@@ -9,6 +9,7 @@ pub mod Rules
 pub mod ReleaseAcquire
 pub mod Choices
 pub mod MessageTable
+pub mod Places
 pub mod Fenced
 pub mod Passing
 pub mod Words

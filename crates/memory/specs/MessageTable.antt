@@ -3,12 +3,13 @@ use Rattle.std.specs.Prelude.{◌≡◌, ℕ, ◌<◌, ◌≤◌, true, cond, Li
 use Rattle.memory.specs.declared.actions.Action.{Action}
 use Rattle.memory.specs.declared.actions.NotOffered.{NotOffered}
 use Rattle.memory.specs.declared.messages.Message.{Message as Kept}
+use Rattle.memory.specs.declared.views.View.{View as Times}
 use Rattle.memory.specs.declared.release_acquire.ReleaseAcquire.{ReleaseAcquire}
 use Rattle.memory.specs.Rules.{View, Message, Pool, turn, adds}
 use Rattle.memory.specs.ReleaseAcquire.{Config, choices, admitted}
 
-abbrev pub view_of : List ℕ → View
-view_of v = λ x. slice_index v x
+abbrev pub view_of : Times → View
+view_of v = λ x. slice_index v.times x
 
 abbrev pub message_of : Kept → Message
 message_of m = record { value = m.value; view = view_of m.view }
@@ -17,11 +18,15 @@ abbrev pub slot_of : Option Kept → Option Message
 slot_of (Some m) = Some (message_of m)
 slot_of None = None
 
-abbrev pub pool_of : List (List (Option Kept)) → Pool
-pool_of table = λ x t. slot_of (slice_index_or (slice_index_or table x []) t None)
+-- the messages of one variable, and of all
+abbrev pub row_of : List (Option Kept) → ℕ → Option Message
+row_of row = λ t. slot_of (slice_index_or row t None)
 
-abbrev pub views_of : List (List ℕ) → ℕ → View
-views_of vs = λ p. view_of (slice_index_or vs p [])
+abbrev pub pool_of : List (List (Option Kept)) → Pool
+pool_of table = λ x. row_of (slice_index_or table x [])
+
+abbrev pub views_of : List Times → ℕ → View
+views_of vs = λ p. view_of (slice_index_or vs p (record { times = [] }))
 
 -- the messages whose timestamp is at most n
 abbrev pub upto : ℕ → Pool → Pool

@@ -1,5 +1,5 @@
 -- The sequential memory's definitions say what its rules say.
-use Rattle.std.specs.Prelude.{◌≡◌, ℕ, ◌<◌, Bool, true, false, not, ◌&&◌, ◌↔◌, List, [], ◌∷◌, Ok, Err, Result, ◌==◌, ◌≢◌, nat_le, refl}
+use Rattle.std.specs.Prelude.{◌≡◌, ℕ, ◌<◌, Bool, true, false, ◌&&◌, ◌↔◌, List, [], ◌∷◌, Some, None, Ok, Err, Option, Result, ◌==◌, ◌≢◌, nat_le, refl}
 use Rattle.std.proofs.Common.{sym, ap, subst, ◌∙◌, ⊎_elim, arith}
 use Rattle.std.proofs.lemmas.Bool.{cases_Bool, and_parts, and_from, leb-true, eqb-true, eqb-false, le-leb, eq-eqb, ne_eqb, both_ways, cond-true, cond-false, not-true, not_from_false}
 use Rattle.memory.specs.declared.actions.Action.{Action}
@@ -11,7 +11,7 @@ use Rattle.memory.specs.declared.shapes.Shape.{Shape}
 use Rattle.memory.specs.Shapes.{Inside, Names, is_process}
 use Rattle.memory.specs.Updates.{update}
 use Rattle.memory.specs.Machine.{Taken, Leads}
-use Rattle.memory.specs.Sequential.{Config, initial, allowed, offer, written, seen, machine}
+use Rattle.memory.specs.Sequential.{Config, initial, allowed, offer, written, seen, is_others, machine}
 use Rattle.memory.specs.SequentialWords.{Ready, May, Offers, Does, Keeps, Gets, Takes}
 
 -- the test of the rule, both ways
@@ -80,11 +80,14 @@ does s u (Write x v) r e = (gets s u x v e, refl)
 does s u (Swap x old new) r e = (r, gets s u x new e, r)
 does s u Fence r e = absurd r
 
-switch_told : (a b : ℕ) → ((not (a == 0) && not (a == b)) ≡ true) ↔ ((a ≢ 0) × (a ≢ b))
-switch_told a b = (
-  (λ h. let k = and_parts (not (a == 0)) (not (a == b)) h in
-      (eqb-false a 0 (not-true (a == 0) k.0), eqb-false a b (not-true (a == b) k.1))),
-  (λ h. and_from (not (a == 0)) (not (a == b)) (not_from_false (a == 0) (ne_eqb a 0 h.0)) (not_from_false (a == b) (ne_eqb a b h.1))),
+switch_told : (last : Option ℕ) (p : ℕ) → (is_others last p ≡ true) ↔ ((q : ℕ) × (last ≡ Some q) × (q ≢ p))
+switch_told (Some q) p = (
+  λ h. (q, refl, eqb-false q p (not-true (q == p) h)),
+  λ h. let e : q ≡ h.0 = cc in not_from_false (q == p) (ne_eqb q p (λ f. h.2 (sym e ∙ f))),
+)
+switch_told None p = (
+  λ h. absurd (both_ways false refl h),
+  λ h. let z : ◌≡◌ {A = ℕ} 0 1 = cc in absurd (omega arith),
 )
 
 pub takes_told : (s : Config) (p : ℕ) (a : Action) (c : ℕ) (u : Config) (r : Result Seen NotOffered)
@@ -97,7 +100,7 @@ takes_told s p a c u (Ok w) h =
       does = subst (λ (v : ℕ). Does s a u v) (sym h.value) (does s u a k.0.1 (ap (λ (t : Config). t.values) h.after));
       shape = ap (λ (t : Config). t.shape) h.after;
       last = ap (λ (t : Config). t.last) h.after;
-      switch = subst (λ (b : Bool). (b ≡ true) ↔ ((s.last ≢ 0) × (s.last ≢ p))) (sym h.mark) (switch_told s.last p);
+      switch = subst (λ (b : Bool). (b ≡ true) ↔ ((q : ℕ) × (s.last ≡ Some q) × (q ≢ p))) (sym h.mark) (switch_told s.last p);
     }
 takes_told s p a c u (Err f) h = record {
   told = subst (λ (n : ℕ). Offers s p a n) (sym h.offer) (offers_told s p a);

@@ -1,5 +1,5 @@
 -- The sequential memory: one value for each variable, and the process of the step before.
-use Rattle.std.specs.Prelude.{ℕ, Bool, true, false, cond, not, ◌&&◌, ◌==◌}
+use Rattle.std.specs.Prelude.{ℕ, Bool, true, false, cond, not, ◌&&◌, Some, None, Option, ◌==◌}
 use Rattle.memory.specs.declared.actions.Action.{Action}
 use Rattle.memory.specs.declared.actions.Action.TheVariants.{Local, Read, Write, Swap, Fence}
 use Rattle.memory.specs.declared.shapes.Shape.{Shape}
@@ -7,14 +7,14 @@ use Rattle.memory.specs.Shapes.{is_process, is_variable}
 use Rattle.memory.specs.Updates.{update}
 use Rattle.memory.specs.Machine.{Machine, Step}
 
--- `last` is the process of the step before, 0 before the first.
+-- `last` is the process of the step before, if there was one.
 pub record Config : Type 0 where
   pub shape : Shape
   pub values : ℕ → ℕ
-  pub last : ℕ
+  pub last : Option ℕ
 
 abbrev pub initial : Shape → Config
-initial shape = record { shape = shape; values = λ x. 0; last = 0 }
+initial shape = record { shape = shape; values = λ x. 0; last = None }
 
 abbrev pub allowed : Config → Action → Bool
 allowed s Local = true
@@ -40,13 +40,17 @@ seen s (Write x v) = 0
 seen s (Swap x old new) = s.values x
 seen s Fence = 0
 
--- the process is not that of the step before; the first step is no switch
+-- whether there was a step before, and it was another process's than p's
+abbrev pub is_others : Option ℕ → ℕ → Bool
+is_others (Some q) p = not (q == p)
+is_others None p = false
+
 abbrev pub switched : Config → ℕ → Bool
-switched s p = not (s.last == 0) && not (s.last == p)
+switched s p = is_others s.last p
 
 abbrev pub step : Config → ℕ → Action → ℕ → Step Config
 step s p a c = record {
-  next = record { shape = s.shape; values = written s a; last = p };
+  next = record { shape = s.shape; values = written s a; last = Some p };
   value = seen s a;
   mark = switched s p;
 }

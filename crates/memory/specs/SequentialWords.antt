@@ -1,5 +1,5 @@
 -- What the sequential memory offers and does, in the words of its rules.
-use Rattle.std.specs.Prelude.{◌≡◌, ℕ, ◌≤◌, true, ◌↔◌, Ok, Err, Result, ◌≢◌}
+use Rattle.std.specs.Prelude.{◌≡◌, ℕ, ◌≤◌, true, ◌↔◌, Some, Ok, Err, Result, ◌≢◌}
 use Rattle.memory.specs.declared.actions.Action.{Action}
 use Rattle.memory.specs.declared.actions.Action.TheVariants.{Local, Read, Write, Swap, Fence}
 use Rattle.memory.specs.declared.actions.NotOffered.{NotOffered}
@@ -44,9 +44,9 @@ pub record Steps (s : Config) (p : ℕ) (a : Action) (c : ℕ) (u : Config) (see
   pub only : c ≡ 0
   pub does : Does s a u seen.value
   pub shape : u.shape ≡ s.shape
-  pub last : u.last ≡ p
+  pub last : u.last ≡ Some p
   -- there was a step before, and it was another process's
-  pub switch : (seen.switch ≡ true) ↔ ((s.last ≢ 0) × (s.last ≢ p))
+  pub switch : (seen.switch ≡ true) ↔ ((q : ℕ) × (s.last ≡ Some q) × (q ≢ p))
 
 pub record Stays (s : Config) (p : ℕ) (a : Action) (c : ℕ) (u : Config) (f : NotOffered) : Type 0 where
   pub told : Offers s p a f.offered

@@ -31,13 +31,13 @@ fn lower(action: Action) -> Action
 impl<M: Memory> Memory for Fences<M> {
     const WIDEST: usize = M::WIDEST;
 
+    ghost WIDEST = { M.Memory.WIDEST };
+
     ghost Config = { M.Memory.Config };
 
     ghost machine = { fenced M.Memory.machine };
 
     ghost config = { λ s. M.Memory.config s.below };
-
-    ghost widest = { M.Memory.widest };
 
     ghost bounded = { Prim.search rules };
 
@@ -51,10 +51,6 @@ impl<M: Memory> Memory for Fences<M> {
         (λ i. out (inside_lowered shape p a i)) };
 
     ghost quiet = { Prim.search rules };
-
-    fn widest_offer() -> usize {
-        M::widest_offer()
-    }
 
     fn start(&mut self, shape: Shape) {
         self.below.start(shape);

@@ -9,9 +9,12 @@ pub mod fences;
 mod limits;
 pub mod memories;
 mod messages;
+mod places;
 pub mod release_acquire;
+mod rules;
 pub mod sequential;
 pub mod shapes;
+mod views;
 
 pub use actions::{Action, NotOffered, Seen, Take};
 pub use driving::drive;

@@ -8,21 +8,22 @@ impl Shape {
     pub fn new(processes: u8, variables: u8, ceiling: u8) -> Option<Shape>
         ensures { Shaped processes variables ceiling result }
     {
-        if processes < 1 || processes > 4 || variables < 1 || variables > 4 || ceiling > 24 {
-            return None;
+        if (1..=4).contains(&processes) && (1..=4).contains(&variables) && ceiling <= 24 {
+            Some(Shape {
+                processes,
+                variables,
+                ceiling,
+            })
+        } else {
+            None
         }
-        Some(Shape {
-            processes,
-            variables,
-            ceiling,
-        })
     }
 
     // Whether there is such a process.
     pub fn has_process(self, process: u8) -> bool
         ensures { result ≡ is_process self process }
     {
-        1 <= process && process <= self.processes
+        (1..=self.processes).contains(&process)
     }
 
     // Whether there is such a variable.

@@ -10,9 +10,12 @@ use super::shapes::Shape;
 
 // A memory means a configuration: where it starts for a shape, how many choices a process has for an
 // action, and where each choice leads. Code over a memory is proved against this meaning alone.
+// An action goes by value, as a parameter of its own, to every memory's offers and take.
 pub trait Memory {
-    // The widest offer.
+    // The widest offer: no configuration offers more.
     const WIDEST: usize;
+
+    ghost WIDEST: { ℕ };
 
     ghost Config: { Type 0 };
 
@@ -20,13 +23,6 @@ pub trait Memory {
 
     // The configuration in which a memory stands.
     ghost config: { Self → Config };
-
-    // The same number as WIDEST.
-    ghost widest: { ℕ };
-
-    // A constant has no contract, so this function says that WIDEST is the widest offer.
-    fn widest_offer() -> usize
-        ensures { result ≡ widest };
 
     // Goes to the starting configuration of the shape.
     fn start(&mut self, shape: Shape)
@@ -41,11 +37,11 @@ pub trait Memory {
         ensures outcome { Taken machine (config self.old) process action choice (config self.new) result };
 
     // No configuration offers more than the widest offer.
-    ghost bounded: { (s : Config) (p : ℕ) (a : Action) → machine.offer s p a ≤ widest };
+    ghost bounded: { (s : Config) (p : ℕ) (a : Action) → machine.offer s p a ≤ WIDEST };
 
-    ghost some: { 1 ≤ widest };
+    ghost some: { 1 ≤ WIDEST };
 
-    ghost few: { widest ≤ 9999 };
+    ghost few: { WIDEST ≤ 9999 };
 
     // A process or a variable outside the shape is offered nothing, wherever takes have led from its start.
     ghost outside: { (shape : Shape) (ks : List Take) (s : Config) → Leads machine (machine.initial shape) ks s → (p : ℕ) (a : Action) → (Inside shape p a → ⊥) → machine.offer s p a ≡ 0 };

@@ -10,13 +10,13 @@ use super::actions::{Action, NotOffered, Seen};
 use super::memories::Memory;
 use super::shapes::Shape;
 
-// One value for each variable.
+// One value for each variable, 0 to 4, in an array, since a memory has no heap.
 #[derive(Clone, Copy)]
 pub struct Sequential {
     shape: Shape,
     values: [u8; 5],
-    // The process of the step before, 0 before the first.
-    last: u8,
+    // The process of the step before, if there was one.
+    last: Option<u8>,
 }
 
 impl Sequential {
@@ -26,18 +26,7 @@ impl Sequential {
         Sequential {
             shape,
             values: [0; 5],
-            last: 0,
-        }
-    }
-
-    // How many choices there are, 0 or 1.
-    fn offered(&self, process: u8, action: Action) -> usize
-        ensures { result ≡ offer (config self.now) process action }
-    {
-        if self.shape.has_process(process) && self.allows(action) {
-            1
-        } else {
-            0
+            last: None,
         }
     }
 
@@ -51,7 +40,7 @@ impl Sequential {
                 .shape
                 .has_variable(variable),
             Action::Swap { variable, old, .. } => {
-                self.shape.has_variable(variable) && self.values[variable as usize] == old
+                self.shape.has_variable(variable) && self.values[usize::from(variable)] == old
             }
             Action::Fence => false,
         }
@@ -66,44 +55,30 @@ impl Sequential {
         ensures last { self.new.last ≡ self.old.last }
     {
         match action {
-            Action::Read { variable } => self.values[variable as usize],
+            Action::Read { variable } => self.values[usize::from(variable)],
             Action::Write { variable, value } => {
-                self.values[variable as usize] = value;
+                self.values[usize::from(variable)] = value;
                 0
             }
             Action::Swap { variable, old, new } => {
-                self.values[variable as usize] = new;
+                self.values[usize::from(variable)] = new;
                 old
             }
             Action::Local | Action::Fence => 0,
         }
-    }
-
-    // One step of the process, if the choice is offered.
-    fn go(&mut self, process: u8, action: Action, choice: usize) -> Result<Seen, NotOffered>
-        ensures { Taken sequential (config self.old) process action choice (config self.new) result }
-    {
-        let offered = self.offered(process, action);
-        if choice >= offered {
-            return Err(NotOffered { offered });
-        }
-        let value = self.perform(action);
-        let switch = self.last != 0 && self.last != process;
-        self.last = process;
-        Ok(Seen { value, switch })
     }
 }
 
 impl Memory for Sequential {
     const WIDEST: usize = 1;
 
+    ghost WIDEST = { 1 };
+
     ghost Config = { Config };
 
     ghost machine = { sequential };
 
     ghost config = { config };
-
-    ghost widest = { 1 };
 
     ghost bounded = { Prim.search rules };
 
@@ -115,10 +90,7 @@ impl Memory for Sequential {
 
     ghost quiet = { Prim.search rules };
 
-    fn widest_offer() -> usize {
-        Self::WIDEST
-    }
-
+    // Written in each memory: the trait can't have it, since a layer has no `new`.
     fn start(&mut self, shape: Shape) {
         *self = Sequential::new(shape);
     }
@@ -127,13 +99,20 @@ impl Memory for Sequential {
         ensures value { result ≡ offer (config self.now) process action }
         ensures words { Offers (config self.now) process action result }
     {
-        self.offered(process, action)
+        usize::from(self.shape.has_process(process) && self.allows(action))
     }
 
     fn take(&mut self, process: u8, action: Action, choice: usize) -> Result<Seen, NotOffered>
         ensures outcome { Taken sequential (config self.old) process action choice (config self.new) result }
         ensures words { Takes (config self.old) process action choice (config self.new) result }
     {
-        self.go(process, action, choice)
+        let offered = self.offers(process, action);
+        if choice >= offered {
+            return Err(NotOffered { offered });
+        }
+        let value = self.perform(action);
+        let switch = self.last.is_some_and(|last| last != process);
+        self.last = Some(process);
+        Ok(Seen { value, switch })
     }
 }

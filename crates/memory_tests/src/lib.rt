@@ -28,16 +28,23 @@ mod tests {
         }
     }
 
+    fn take(process: u8, action: Action, choice: usize) -> Take {
+        Take {
+            process,
+            action,
+            choice,
+        }
+    }
+
     // The take is accepted with this value and mark.
     fn saw<M: Memory>(
         rt: &impl Abort,
         memory: &mut M,
-        take: (u8, Action, usize),
+        take: Take,
         value: u8,
         switch: bool,
     ) -> Result<(), Fail> {
-        let (process, action, choice) = take;
-        match memory.take(process, action, choice) {
+        match memory.take(take.process, take.action, take.choice) {
             Ok(seen) => {
                 assert!(rt; seen.value == value && seen.switch == switch);
                 Ok(())
@@ -80,23 +87,23 @@ mod tests {
 
     #[test]
     fn widest_offers(rt: HostRuntime) {
-        assert_eq!(rt; Sequential::widest_offer(), 1);
-        assert_eq!(rt; ReleaseAcquire::widest_offer(), 25);
+        assert_eq!(rt; Sequential::WIDEST, 1);
+        assert_eq!(rt; ReleaseAcquire::WIDEST, 25);
         assert_eq!(rt; Fences::<Sequential>::WIDEST, 1);
-        assert_eq!(rt; Fences::<ReleaseAcquire>::widest_offer(), 25);
+        assert_eq!(rt; Fences::<ReleaseAcquire>::WIDEST, 25);
     }
 
     #[test]
     fn sequential_keeps_one_value(rt: HostRuntime) -> Result<(), Fail> {
         let mut memory = Sequential::new(shape(2, 2, 8)?);
-        saw(&rt, &mut memory, (1, read(2), 0), 0, false)?;
-        saw(&rt, &mut memory, (1, write(2, 7), 0), 0, false)?;
-        saw(&rt, &mut memory, (1, read(2), 0), 7, false)?;
-        saw(&rt, &mut memory, (1, read(1), 0), 0, false)?;
+        saw(&rt, &mut memory, take(1, read(2), 0), 0, false)?;
+        saw(&rt, &mut memory, take(1, write(2, 7), 0), 0, false)?;
+        saw(&rt, &mut memory, take(1, read(2), 0), 7, false)?;
+        saw(&rt, &mut memory, take(1, read(1), 0), 0, false)?;
         offered(&rt, &mut memory, 1, swap(2, 0, 1), 0)?;
         offered(&rt, &mut memory, 1, swap(2, 7, 9), 1)?;
-        saw(&rt, &mut memory, (1, swap(2, 7, 9), 0), 7, false)?;
-        saw(&rt, &mut memory, (1, read(2), 0), 9, false)?;
+        saw(&rt, &mut memory, take(1, swap(2, 7, 9), 0), 7, false)?;
+        saw(&rt, &mut memory, take(1, read(2), 0), 9, false)?;
         offered(&rt, &mut memory, 1, Action::Fence, 0)
     }
 
@@ -104,40 +111,40 @@ mod tests {
     #[test]
     fn sequential_switches(rt: HostRuntime) -> Result<(), Fail> {
         let mut memory = Sequential::new(shape(3, 1, 8)?);
-        saw(&rt, &mut memory, (2, Action::Local, 0), 0, false)?;
+        saw(&rt, &mut memory, take(2, Action::Local, 0), 0, false)?;
         offered(&rt, &mut memory, 1, Action::Local, 1)?;
-        saw(&rt, &mut memory, (2, read(1), 0), 0, false)?;
-        saw(&rt, &mut memory, (3, Action::Local, 0), 0, true)?;
-        saw(&rt, &mut memory, (1, write(1, 1), 0), 0, true)?;
+        saw(&rt, &mut memory, take(2, read(1), 0), 0, false)?;
+        saw(&rt, &mut memory, take(3, Action::Local, 0), 0, true)?;
+        saw(&rt, &mut memory, take(1, write(1, 1), 0), 0, true)?;
         memory.start(shape(3, 1, 8)?);
-        saw(&rt, &mut memory, (2, read(1), 0), 0, false)
+        saw(&rt, &mut memory, take(2, read(1), 0), 0, false)
     }
 
     // Read: each message that is not below the view, by rising timestamp.
     #[test]
     fn reads_take_messages_from_the_view_on(rt: HostRuntime) -> Result<(), Fail> {
         let mut memory = ReleaseAcquire::new(shape(2, 2, 8)?);
-        saw(&rt, &mut memory, (1, write(1, 5), 1), 0, false)?;
-        saw(&rt, &mut memory, (1, write(1, 6), 0), 0, false)?;
+        saw(&rt, &mut memory, take(1, write(1, 5), 1), 0, false)?;
+        saw(&rt, &mut memory, take(1, write(1, 6), 0), 0, false)?;
         offered(&rt, &mut memory, 1, read(1), 1)?;
-        saw(&rt, &mut memory, (1, read(1), 0), 6, false)?;
+        saw(&rt, &mut memory, take(1, read(1), 0), 6, false)?;
         offered(&rt, &mut memory, 2, read(1), 3)?;
-        saw(&rt, &mut memory, (2, read(1), 0), 0, false)?;
-        saw(&rt, &mut memory, (2, read(1), 1), 5, true)?;
+        saw(&rt, &mut memory, take(2, read(1), 0), 0, false)?;
+        saw(&rt, &mut memory, take(2, read(1), 1), 5, true)?;
         offered(&rt, &mut memory, 2, read(1), 2)?;
-        saw(&rt, &mut memory, (2, read(1), 0), 5, false)
+        saw(&rt, &mut memory, take(2, read(1), 0), 5, false)
     }
 
     // A message read brings its writer's view along: message passing.
     #[test]
     fn reads_join_views(rt: HostRuntime) -> Result<(), Fail> {
         let mut memory = ReleaseAcquire::new(shape(2, 2, 8)?);
-        saw(&rt, &mut memory, (1, write(1, 1), 0), 0, false)?;
-        saw(&rt, &mut memory, (1, write(2, 1), 0), 0, false)?;
+        saw(&rt, &mut memory, take(1, write(1, 1), 0), 0, false)?;
+        saw(&rt, &mut memory, take(1, write(2, 1), 0), 0, false)?;
         offered(&rt, &mut memory, 2, read(1), 2)?;
-        saw(&rt, &mut memory, (2, read(2), 1), 1, true)?;
+        saw(&rt, &mut memory, take(2, read(2), 1), 1, true)?;
         offered(&rt, &mut memory, 2, read(1), 1)?;
-        saw(&rt, &mut memory, (2, read(1), 0), 1, false)
+        saw(&rt, &mut memory, take(2, read(1), 0), 1, false)
     }
 
     // Write: a timestamp above the view that no message of the variable has, up to the ceiling.
@@ -145,12 +152,12 @@ mod tests {
     fn writes_take_free_timestamps(rt: HostRuntime) -> Result<(), Fail> {
         let mut memory = ReleaseAcquire::new(shape(2, 1, 3)?);
         offered(&rt, &mut memory, 1, write(1, 5), 3)?;
-        saw(&rt, &mut memory, (1, write(1, 5), 1), 0, false)?;
+        saw(&rt, &mut memory, take(1, write(1, 5), 1), 0, false)?;
         offered(&rt, &mut memory, 1, write(1, 6), 1)?;
         offered(&rt, &mut memory, 2, write(1, 7), 2)?;
-        saw(&rt, &mut memory, (2, write(1, 7), 0), 0, false)?;
+        saw(&rt, &mut memory, take(2, write(1, 7), 0), 0, false)?;
         offered(&rt, &mut memory, 2, read(1), 2)?;
-        saw(&rt, &mut memory, (1, write(1, 6), 0), 0, false)?;
+        saw(&rt, &mut memory, take(1, write(1, 6), 0), 0, false)?;
         offered(&rt, &mut memory, 1, write(1, 8), 0)?;
         offered(&rt, &mut memory, 2, write(1, 8), 0)
     }
@@ -162,26 +169,26 @@ mod tests {
         let mut memory = ReleaseAcquire::new(shape(2, 1, 2)?);
         offered(&rt, &mut memory, 1, swap(1, 1, 2), 0)?;
         offered(&rt, &mut memory, 1, swap(1, 0, 5), 1)?;
-        saw(&rt, &mut memory, (1, swap(1, 0, 5), 0), 0, false)?;
+        saw(&rt, &mut memory, take(1, swap(1, 0, 5), 0), 0, false)?;
         offered(&rt, &mut memory, 2, swap(1, 0, 6), 0)?;
-        saw(&rt, &mut memory, (2, swap(1, 5, 6), 0), 5, true)?;
+        saw(&rt, &mut memory, take(2, swap(1, 5, 6), 0), 5, true)?;
         offered(&rt, &mut memory, 1, swap(1, 6, 7), 0)?;
-        saw(&rt, &mut memory, (1, read(1), 1), 6, true)
+        saw(&rt, &mut memory, take(1, read(1), 1), 6, true)
     }
 
     // The mark goes by the message read: entering the new timestamp itself is no switch.
     #[test]
     fn a_swap_of_a_known_message_is_no_switch(rt: HostRuntime) -> Result<(), Fail> {
         let mut memory = ReleaseAcquire::new(shape(2, 1, 8)?);
-        saw(&rt, &mut memory, (1, write(1, 3), 0), 0, false)?;
-        saw(&rt, &mut memory, (1, swap(1, 3, 4), 0), 3, false)
+        saw(&rt, &mut memory, take(1, write(1, 3), 0), 0, false)?;
+        saw(&rt, &mut memory, take(1, swap(1, 3, 4), 0), 3, false)
     }
 
     #[test]
     fn local_has_one_choice_and_fence_none(rt: HostRuntime) -> Result<(), Fail> {
         let mut memory = ReleaseAcquire::new(shape(1, 1, 0)?);
         offered(&rt, &mut memory, 1, Action::Local, 1)?;
-        saw(&rt, &mut memory, (1, Action::Local, 0), 0, false)?;
+        saw(&rt, &mut memory, take(1, Action::Local, 0), 0, false)?;
         offered(&rt, &mut memory, 1, Action::Fence, 0)?;
         offered(&rt, &mut memory, 1, write(1, 1), 0)?;
         offered(&rt, &mut memory, 1, swap(1, 0, 1), 0)?;
@@ -217,11 +224,11 @@ mod tests {
         let mut memory = Fences {
             below: ReleaseAcquire::new(shape(2, 2, 8)?),
         };
-        saw(&rt, &mut memory, (1, write(1, 1), 0), 0, false)?;
-        saw(&rt, &mut memory, (1, Action::Fence, 0), 0, false)?;
+        saw(&rt, &mut memory, take(1, write(1, 1), 0), 0, false)?;
+        saw(&rt, &mut memory, take(1, Action::Fence, 0), 0, false)?;
         offered(&rt, &mut memory, 2, read(1), 2)?;
         offered(&rt, &mut memory, 2, Action::Fence, 1)?;
-        saw(&rt, &mut memory, (2, Action::Fence, 0), 0, true)?;
+        saw(&rt, &mut memory, take(2, Action::Fence, 0), 0, true)?;
         offered(&rt, &mut memory, 2, read(1), 1)?;
         assert_eq!(rt; memory.below.offers(2, Action::Fence), 0);
         Ok(())
@@ -231,25 +238,13 @@ mod tests {
     #[test]
     fn memories_are_driven(rt: HostRuntime) -> Result<(), Fail> {
         let takes = [
-            Take {
-                process: 1,
-                action: write(1, 5),
-                choice: 0,
-            },
-            Take {
-                process: 2,
-                action: read(1),
-                choice: 2,
-            },
-            Take {
-                process: 2,
-                action: read(1),
-                choice: 1,
-            },
+            take(1, write(1, 5), 0),
+            take(2, read(1), 2),
+            take(2, read(1), 1),
         ];
         let mut memory = ReleaseAcquire::new(shape(1, 1, 0)?);
         drive(&mut memory, shape(2, 1, 8)?, &takes);
         offered(&rt, &mut memory, 2, read(1), 1)?;
-        saw(&rt, &mut memory, (2, read(1), 0), 5, false)
+        saw(&rt, &mut memory, take(2, read(1), 0), 5, false)
     }
 }

@@ -1,9 +1,5 @@
-use Rattle.std.proofs.Common.{refl}
 use Rattle.memory.proofs.Leads.{leads_one, leads_next, leads_all}
 use Rattle.memory.proofs.driving.drive.Goals as goal
-
-pub loop-take-init : goal.loop-take-init
-loop-take-init g c = refl
 
 pub loop-take-preserved : goal.loop-take-preserved
 loop-take-preserved g c =

@@ -1,4 +1,4 @@
-use Rattle.std.proofs.Common.{refl, ap}
+use Rattle.std.proofs.Common.{ap}
 use Rattle.memory.specs.Rules.{Store}
 use Rattle.memory.proofs.MessageTables.{started}
 use Rattle.memory.specs.Timely.{always_timely}
@@ -8,6 +8,6 @@ pub returns : goal.returns
 returns c =
     record {
       start = ap (λ (s : Store). record { shape = c.args.shape; store = s })
-          (started c.args.shape _ c.first_messages-messages.result refl c.first_messages-messages.ensures);
+          (started c.args.shape c.nought.result _ c.nought.ensures c.first_messages.ensures);
       always = always_timely;
     }
