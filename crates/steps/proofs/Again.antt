@@ -1,8 +1,7 @@
 -- A line that was read is what is printed of it again.
-use Rattle.std.proofs.Common.{◌≡◌, ℕ, Bool, true, false, cond, eqb, List, ◌∷◌, ◌++◌, length, Some, None, Ok, codes, decimal, Option, sym, refl, ap, ◌∙◌, append_assoc, append-nil}
+use Rattle.std.proofs.Common.{◌≡◌, ℕ, Bool, true, false, cond, List, ◌∷◌, ◌++◌, Some, Ok, codes, decimal, Option, sym, refl, ap, ◌∙◌, append_assoc}
+use Rattle.std.proofs.lemmas.Option.{none-some, same_Some}
 use Rattle.std.proofs.lemmas.Slice.Eq.{bytes_eq-Decides}
-use Rattle.std.proofs.lemmas.List.{nil_from_length}
-use Rattle.std.proofs.lemmas.Bool.{eqb-true}
 use Rattle.std.specs.Option.{ok_or}
 use Rattle.std.specs.Str.{bytes_eq}
 use Rattle.memory.specs.declared.actions.Action.{Action}
@@ -10,14 +9,15 @@ use Rattle.memory.specs.declared.actions.Action.TheVariants.{Local, Read, Write,
 use Rattle.memory.specs.declared.actions.Take.{Take}
 use Rattle.steps.specs.declared.asking.Verb.{Verb}
 use Rattle.steps.specs.declared.asking.Verb.TheVariants.{Local as ToLocal, Read as ToRead, Write as ToWrite, Swap as ToSwap, Fence as ToFence}
+use Rattle.steps.specs.declared.wrongs.Wrong.{Wrong}
 use Rattle.steps.specs.declared.wrongs.Wrong.TheVariants.{Process, Action as NoAction, Variable, Value, Choice}
-use Rattle.steps.specs.Asking.{verb_of, variable_of, word_by, choice_at, variable_at, value_at, operands_at, action_at, take_of}
-use Rattle.steps.specs.Chains.{then, onward}
-use Rattle.steps.specs.Cutting.{front, back, after_space}
+use Rattle.steps.specs.Asking.{verb_of, choice_at, variable_at, value_at, operands_at, action_at, take_of}
+use Rattle.steps.specs.Chains.{onward}
+use Rattle.steps.specs.Cutting.{front, back, after, word_after}
 use Rattle.steps.specs.Numbers.{number_of, byte_of}
 use Rattle.steps.specs.Words.{action_words, take_words}
-use Rattle.steps.proofs.Inversions.{not_none, same_some, same_ok, then_some, onward_ok, ok_some, cond_some}
-use Rattle.steps.proofs.Repeats.{cut_joins, space_joins, word_joins, number_repeats, byte_repeats, variable_repeats}
+use Rattle.steps.proofs.Inversions.{same_ok, then_some, onward_ok, ok_some}
+use Rattle.steps.proofs.Repeats.{cut_joins, after_joins, word_joins, number_repeats, byte_repeats}
 
 abbrev verb_words : Verb → List ℕ
 verb_words ToLocal = codes "local"
@@ -28,7 +28,7 @@ verb_words ToFence = codes "fence"
 
 -- a word is the name x, or else one of those that follow
 name_if : (b : Bool) (w name : List ℕ) (x v : Verb) (others : Option Verb) → (b ≡ true → w ≡ name) → verb_words x ≡ name → cond b (Some x) others ≡ Some v → (others ≡ Some v → verb_words v ≡ w) → verb_words v ≡ w
-name_if true w name x v others is ex h rest = ap verb_words (sym (same_some x v h)) ∙ (ex ∙ sym (is refl))
+name_if true w name x v others is ex h rest = ap verb_words (sym (same_Some x v h)) ∙ (ex ∙ sym (is refl))
 name_if false w name x v others is ex h rest = rest h
 
 named : (w name : List ℕ) (x v : Verb) (others : Option Verb) → verb_words x ≡ name → cond (bytes_eq w name) (Some x) others ≡ Some v → (others ≡ Some v → verb_words v ≡ w) → verb_words v ≡ w
@@ -37,17 +37,19 @@ named w name x v others = name_if (bytes_eq w name) w name x v others (bytes_eq-
 verb_repeats : (w : List ℕ) (v : Verb) → verb_of w ≡ Some v → verb_words v ≡ w
 verb_repeats w v h =
     named w (codes "local") ToLocal v _ refl h (λ i. named w (codes "read") ToRead v _ refl i (λ j. named w (codes "write") ToWrite v _ refl j
-    (λ k. named w (codes "swap") ToSwap v _ refl k (λ l. named w (codes "fence") ToFence v _ refl l (λ n. absurd (not_none v n))))))
+    (λ k. named w (codes "swap") ToSwap v _ refl k (λ l. named w (codes "fence") ToFence v _ refl l (λ n. absurd (none-some v n))))))
+
+-- a number after a beginning
+number_joins : (start s : List ℕ) (w : Wrong) (p : ℕ × List ℕ) → ok_or (word_after start byte_of s) w ≡ Ok p → start ++ (decimal p.0 ++ p.1) ≡ s
+number_joins start s w p h =
+    let q = word_joins start byte_of s p (ok_some (word_after start byte_of s) w p h) in
+    ap (λ (l : List ℕ). start ++ (l ++ p.1)) (byte_repeats q.0 p.0 q.1) ∙ q.2
 
 variable_joins : (s : List ℕ) (p : ℕ × List ℕ) → variable_at s ≡ Ok p → codes " x" ++ (decimal p.0 ++ p.1) ≡ s
-variable_joins s p h =
-    let q = word_joins variable_of s p (ok_some (word_by variable_of s) Variable p h) in
-    ap (λ (w : List ℕ). 32 ∷ (w ++ p.1)) (variable_repeats q.0 p.0 q.1) ∙ q.2
+variable_joins s = number_joins (codes " x") s Variable
 
 value_joins : (s : List ℕ) (p : ℕ × List ℕ) → value_at s ≡ Ok p → codes " " ++ (decimal p.0 ++ p.1) ≡ s
-value_joins s p h =
-    let q = word_joins byte_of s p (ok_some (word_by byte_of s) Value p h) in
-    ap (λ (w : List ℕ). 32 ∷ (w ++ p.1)) (byte_repeats q.0 p.0 q.1) ∙ q.2
+value_joins s = number_joins (codes " ") s Value
 
 -- the action and what follows it, as one text
 abbrev whole : Action × List ℕ → List ℕ
@@ -82,26 +84,15 @@ operands_join ToSwap s p h =
 
 action_joins : (s : List ℕ) (p : Action × List ℕ) → action_at s ≡ Ok p → codes " " ++ whole p ≡ s
 action_joins s p h =
-    let v = onward_ok (ok_or (word_by verb_of s) NoAction) (λ v. operands_at v.0 v.1) p h in
-    let q = word_joins verb_of s v.0 (ok_some (word_by verb_of s) NoAction v.0 v.1) in
+    let v = onward_ok (ok_or (word_after (codes " ") verb_of s) NoAction) (λ v. operands_at v.0 v.1) p h in
+    let q = word_joins (codes " ") verb_of s v.0 (ok_some (word_after (codes " ") verb_of s) NoAction v.0 v.1) in
     ap (λ (l : List ℕ). 32 ∷ l) (operands_join v.0.0 v.0.1 p v.2) ∙
     (ap (λ (w : List ℕ). 32 ∷ (w ++ v.0.1)) (verb_repeats q.0 v.0.0 q.1) ∙ q.2)
 
 choice_joins : (s : List ℕ) (n : ℕ) → choice_at s ≡ Some n → codes " choice " ++ decimal n ≡ s
 choice_joins s n h =
-    let p = then_some (after_space s) (λ p. cond (bytes_eq p.0 (codes "choice"))
-    (then (after_space p.1) (λ q. cond (eqb (length q.1) 0) (number_of q.0) None)) None) n h in
-    let c = cond_some (bytes_eq p.0.0 (codes "choice"))
-    (then (after_space p.0.1) (λ q. cond (eqb (length q.1) 0) (number_of q.0) None)) n p.2 in
-    let q = then_some (after_space p.0.1) (λ q. cond (eqb (length q.1) 0) (number_of q.0) None) n c.1 in
-    let d = cond_some (eqb (length q.0.1) 0) (number_of q.0.0) n q.2 in
-    let none = nil_from_length q.0.1 (eqb-true (length q.0.1) 0 d.0) in
-    let digits = number_repeats q.0.0 n d.1 in
-    let last : codes " " ++ decimal n ≡ p.0.1 =
-    ap (λ (w : List ℕ). 32 ∷ w) (digits ∙ (sym (append-nil q.0.0) ∙ ap (λ (l : List ℕ). q.0.0 ++ l) (sym none))) ∙
-    space_joins p.0.1 q.0 q.1 in
-    ap (λ (l : List ℕ). codes " choice" ++ l) last ∙
-    (ap (λ (w : List ℕ). 32 ∷ (w ++ p.0.1)) (sym ((bytes_eq-Decides p.0.0 (codes "choice")).0 c.0)) ∙ space_joins s p.0 p.1)
+    let p = then_some (after (codes " choice ") s) number_of n h in
+    ap (λ (w : List ℕ). codes " choice " ++ w) (number_repeats p.0 n p.2) ∙ after_joins (codes " choice ") s p.0 p.1
 
 pub take_repeats : (l : List ℕ) (k : Take) → take_of l ≡ Ok k → take_words k ≡ l
 take_repeats l k h =

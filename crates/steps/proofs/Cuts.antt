@@ -1,52 +1,45 @@
--- The way to the first byte e of a text, one byte after another.
-use Rattle.std.proofs.Common.{◌≡◌, ℕ, ◌+◌, ◌<◌, ◌≤◌, eqb, List, [], ◌∷◌, ◌++◌, length, get_or, take, drop, sym, refl, ap, ◌∙◌, append_assoc, append-nil, arith}
-use Rattle.std.proofs.lemmas.List.{take_more, drop_more, drop_all, take_all}
-use Rattle.std.proofs.lemmas.Bool.{cond-true, cond-false, eq-eqb, ne_eqb}
+-- The place of the first byte e of a text cuts it there.
+use Rattle.std.proofs.Common.{◌≡◌, ℕ, ◌+◌, ◌≤◌, Bool, true, false, cond, not, eqb, ltb, List, [], ◌∷◌, length, take, drop, Some, None, refl, ap, ◌∙◌, add_comm, add-one, arith}
+use Rattle.std.proofs.lemmas.List.Sums.{prefix_len-le-length}
+use Rattle.std.proofs.lemmas.Bool.{ltb-false}
+use Rattle.std.specs.List.{position, position_or_len}
+use Rattle.std.specs.Option.{unwrap_or}
 use Rattle.steps.specs.Cutting.{front, back}
 
--- none of the first i bytes is e
-pub record Passed (e : ℕ) (s : List ℕ) (i : ℕ) : Type 0 where
-  pub before : take i s ++ front e (drop i s) ≡ front e s
-  pub after : back e (drop i s) ≡ back e s
+-- where the text is cut
+abbrev pub cut_at : ℕ → List ℕ → ℕ
+cut_at e s = unwrap_or (position (λ b. eqb b e) s) (length s)
 
--- the text is cut at i
-pub record Cut (e : ℕ) (s : List ℕ) (i : ℕ) : Type 0 where
-  pub before : take i s ≡ front e s
-  pub after : drop i s ≡ back e s
+found_or : (b : Bool) (i n : ℕ) → (b ≡ false → n ≡ i) → unwrap_or (cond b (Some i) None) n ≡ i
+found_or true i n h = refl
+found_or false i n h = h refl
 
-pub passed_none : (e : ℕ) (s : List ℕ) → Passed e s 0
-passed_none e s = record { before = refl; after = refl }
+cut_at_is : (e : ℕ) (s : List ℕ) → cut_at e s ≡ position_or_len (λ b. eqb b e) s
+cut_at_is e s =
+    let i = position_or_len (λ b. eqb b e) s in
+    found_or (ltb i (length s)) i (length s) (λ h. let u = ltb-false i (length s) h in omega (arith, prefix_len-le-length (λ b. not (eqb b e)) s))
 
-pub passed_more : (e : ℕ) (s : List ℕ) (i : ℕ) → i < length s → (get_or s i 0 ≡ e → ⊥) → Passed e s i → Passed e s (i + 1)
-passed_more e s i lt ne p =
-    let x = get_or s i 0 in
-    let d = drop_more s i 0 lt in
-    let f = ap (front e) d ∙ cond-false (eqb x e) [] (x ∷ front e (drop (i + 1) s)) (ne_eqb x e ne) in
-    let b = ap (back e) d ∙ cond-false (eqb x e) (x ∷ drop (i + 1) s) (back e (drop (i + 1) s)) (ne_eqb x e ne) in
-    record {
-      before = ap (λ (l : List ℕ). l ++ front e (drop (i + 1) s)) (take_more s i 0 lt) ∙
-          (append_assoc (take i s) (x ∷ []) (front e (drop (i + 1) s)) ∙
-          (ap (λ (l : List ℕ). take i s ++ l) (sym f) ∙ p.before));
-      after = sym b ∙ p.after;
-    }
+pub cut_within : (e : ℕ) (s : List ℕ) → cut_at e s ≤ length s
+cut_within e s = omega (arith, cut_at_is e s, prefix_len-le-length (λ b. not (eqb b e)) s)
 
-pub cut_here : (e : ℕ) (s : List ℕ) (i : ℕ) → i < length s → get_or s i 0 ≡ e → Passed e s i → Cut e s i
-cut_here e s i lt is p =
-    let x = get_or s i 0 in
-    let d = drop_more s i 0 lt in
-    let f = ap (front e) d ∙ cond-true (eqb x e) [] (x ∷ front e (drop (i + 1) s)) (eq-eqb x e is) in
-    let b = ap (back e) d ∙ cond-true (eqb x e) (x ∷ drop (i + 1) s) (back e (drop (i + 1) s)) (eq-eqb x e is) in
-    record {
-      before = sym (append-nil (take i s)) ∙ (ap (λ (l : List ℕ). take i s ++ l) (sym f) ∙ p.before);
-      after = d ∙ (sym b ∙ p.after);
-    }
+front_by : (b : Bool) (c : ℕ) (cs f : List ℕ) (n : ℕ) → take n cs ≡ f → take (cond (not b) (1 + n) 0) (c ∷ cs) ≡ cond b [] (c ∷ f)
+front_by true c cs f n h = refl
+front_by false c cs f n h = rw (add_comm 1 n, add-one) (ap (λ (l : List ℕ). c ∷ l) h)
 
-pub cut_nowhere : (e : ℕ) (s : List ℕ) (i : ℕ) → length s ≤ i → Passed e s i → Cut e s (length s)
-cut_nowhere e s i le p =
-    let d = drop_all i s le in
-    let all : length s ≤ length s = omega arith in
-    record {
-      before = take_all (length s) s all ∙ (sym (take_all i s le) ∙ (sym (append-nil (take i s)) ∙
-          (ap (λ (l : List ℕ). take i s ++ front e l) (sym d) ∙ p.before)));
-      after = drop_all (length s) s all ∙ (ap (back e) (sym d) ∙ p.after);
-    }
+front_to : (e : ℕ) (s : List ℕ) → take (position_or_len (λ b. eqb b e) s) s ≡ front e s
+front_to e [] = refl
+front_to e (c ∷ cs) = front_by (eqb c e) c cs (front e cs) (position_or_len (λ b. eqb b e) cs) (front_to e cs)
+
+pub front_is : (e : ℕ) (s : List ℕ) → take (cut_at e s) s ≡ front e s
+front_is e s = ap (λ i. take i s) (cut_at_is e s) ∙ front_to e s
+
+back_by : (b : Bool) (c : ℕ) (cs g : List ℕ) (n : ℕ) → drop n cs ≡ g → drop (cond (not b) (1 + n) 0) (c ∷ cs) ≡ cond b (c ∷ cs) g
+back_by true c cs g n h = refl
+back_by false c cs g n h = rw (add_comm 1 n, add-one) h
+
+back_to : (e : ℕ) (s : List ℕ) → drop (position_or_len (λ b. eqb b e) s) s ≡ back e s
+back_to e [] = refl
+back_to e (c ∷ cs) = back_by (eqb c e) c cs (back e cs) (position_or_len (λ b. eqb b e) cs) (back_to e cs)
+
+pub back_is : (e : ℕ) (s : List ℕ) → drop (cut_at e s) s ≡ back e s
+back_is e s = ap (λ i. drop i s) (cut_at_is e s) ∙ back_to e s

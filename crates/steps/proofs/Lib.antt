@@ -1,9 +1,6 @@
 mod Cuts
-mod Digits
-mod Firsts
 mod Turns
 mod Shapings
-mod Told
 mod Inversions
 mod Repeats
 mod Again

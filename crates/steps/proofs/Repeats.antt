@@ -1,14 +1,16 @@
 -- Words and numbers, written again as they were read.
-use Rattle.std.proofs.Common.{◌≡◌, ℕ, ◌+◌, ◌-◌, ◌*◌, Bool, true, false, cond, not, ◌&&◌, ◌||◌, eqb, leb, List, [], ◌∷◌, ◌++◌, length, Some, None, codes, decimal, Option, sym, refl, ap, ◌∙◌, ⊎_elim, arith, rules}
+use Rattle.std.proofs.Common.{◌≡◌, ℕ, ◌+◌, ◌-◌, ◌*◌, Bool, true, false, cond, not, ◌&&◌, ◌||◌, eqb, leb, List, [], ◌∷◌, ◌++◌, length, take, drop, Some, None, decimal, Option, sym, refl, ap, ◌∙◌, ⊎_elim, arith, rules}
 use Rattle.std.proofs.lemmas.Fmt.{decimal-digits_value}
 use Rattle.std.proofs.lemmas.Str.Parse.{IsNumeralModel, numerals_by_fold, digits_value_short, tells_all_ascii_digits}
 use Rattle.std.proofs.lemmas.Bool.{and_from, and_parts, or_cases, not-true, eqb-true, eqb-false, leb-true}
-use Rattle.std.specs.Str.{all_ascii_digits}
-use Rattle.steps.specs.Asking.{variable_of, word_by}
+use Rattle.std.proofs.lemmas.Option.{none-some, same_Some}
+use Rattle.std.proofs.lemmas.List.{take-append-drop}
+use Rattle.std.proofs.lemmas.Slice.Eq.{bytes_eq-Decides}
+use Rattle.std.specs.Str.{all_ascii_digits, bytes_eq}
 use Rattle.steps.specs.Chains.{then}
-use Rattle.steps.specs.Cutting.{front, back, after_space}
+use Rattle.steps.specs.Cutting.{front, back, after, word_after}
 use Rattle.steps.specs.Numbers.{digits_from, well_begun, number_of, byte_of}
-use Rattle.steps.proofs.Inversions.{not_none, same_some, then_some, cond_some}
+use Rattle.steps.proofs.Inversions.{then_some, cond_some}
 
 joins_by : (b : Bool) (c : ℕ) (cs f g : List ℕ) → f ++ g ≡ cs → cond b [] (c ∷ f) ++ cond b (c ∷ cs) g ≡ c ∷ cs
 joins_by true c cs f g h = refl
@@ -18,23 +20,22 @@ pub cut_joins : (e : ℕ) (s : List ℕ) → front e s ++ back e s ≡ s
 cut_joins e [] = refl
 cut_joins e (c ∷ cs) = joins_by (eqb c e) c cs (front e cs) (back e cs) (cut_joins e cs)
 
-pub space_joins : (s : List ℕ) (p : List ℕ × List ℕ) → after_space s ≡ Some p → 32 ∷ (p.0 ++ p.1) ≡ s
-space_joins [] p h = absurd (not_none p h)
-space_joins (c ∷ cs) p h =
-    let q = cond_some (eqb c 32) (Some (front 32 cs, back 32 cs)) p h in
-    let e = same_some (front 32 cs, back 32 cs) p q.1 in
-    let x = eqb-true c 32 q.0 in
-    (λ k. sym x k ∷ ((sym e k).0 ++ (sym e k).1)) ∙ ap (λ (l : List ℕ). c ∷ l) (cut_joins 32 cs)
+pub after_joins : (start s r : List ℕ) → after start s ≡ Some r → start ++ r ≡ s
+after_joins start s r h =
+    let n = length start in
+    let q = cond_some (bytes_eq (take n s) start) (Some (drop n s)) r h in
+    (λ k. sym ((bytes_eq-Decides (take n s) start).0 q.0) k ++ sym (same_Some (drop n s) r q.1) k) ∙ take-append-drop n s
 
--- the next word, read
-pub word_joins : {X : Type 0} (read : List ℕ → Option X) (s : List ℕ) (p : X × List ℕ) → word_by read s ≡ Some p → (w : List ℕ) × (read w ≡ Some p.0) × (32 ∷ (w ++ p.1) ≡ s)
-word_joins {X = X} read s p h =
-    let q = then_some (after_space s) (λ t. then (read t.0) (λ x. Some (x, t.1))) p h in
-    let r = then_some (read q.0.0) (λ x. Some (x, q.0.1)) p q.2 in
-    let e = same_some (r.0, q.0.1) p r.2 in (
-      q.0.0,
+-- the word after a beginning, read
+pub word_joins : {X : Type 0} (start : List ℕ) (read : List ℕ → Option X) (s : List ℕ) (p : X × List ℕ) → word_after start read s ≡ Some p → (w : List ℕ) × (read w ≡ Some p.0) × (start ++ (w ++ p.1) ≡ s)
+word_joins {X = X} start read s p h =
+    let q = then_some (after start s) (λ r. then (read (front 32 r)) (λ x. Some (x, back 32 r))) p h in
+    let r = then_some (read (front 32 q.0)) (λ x. Some (x, back 32 q.0)) p q.2 in
+    let e = same_Some (r.0, back 32 q.0) p r.2 in (
+      front 32 q.0,
       r.1 ∙ ap (λ (t : X × List ℕ). Some t.0) e,
-      ap (λ (t : X × List ℕ). 32 ∷ (q.0.0 ++ t.1)) (sym e) ∙ space_joins s q.0 q.1,
+      ap (λ (t : X × List ℕ). start ++ (front 32 q.0 ++ t.1)) (sym e) ∙
+          (ap (λ (l : List ℕ). start ++ l) (cut_joins 32 q.0) ∙ after_joins start s q.0 q.1),
     )
 
 abbrev read_on : ℕ → List ℕ → ℕ
@@ -45,7 +46,7 @@ own : IsNumeralModel (λ ds. all_ascii_digits ds ≡ true) (read_on 0)
 own = numerals_by_fold _ tells_all_ascii_digits read_on (search rules)
 
 digits_read : (n : ℕ) (s : List ℕ) (m : ℕ) → digits_from n s ≡ Some m → (all_ascii_digits s ≡ true) × (read_on n s ≡ m)
-digits_read n [] m h = (refl, same_some n m h)
+digits_read n [] m h = (refl, same_Some n m h)
 digits_read n (c ∷ cs) m h =
     let p = cond_some (leb 48 c && leb c 57) (digits_from (n * 10 + (c - 48)) cs) m h in
     let q = digits_read (n * 10 + (c - 48)) cs m p.1 in
@@ -57,7 +58,7 @@ alone c cs h z =
     (or_cases (not (eqb c 48)) (eqb (length cs) 0) h)
 
 pub number_repeats : (w : List ℕ) (n : ℕ) → number_of w ≡ Some n → decimal n ≡ w
-number_repeats [] n h = absurd (not_none n h)
+number_repeats [] n h = absurd (none-some n h)
 number_repeats (c ∷ cs) n h =
     let w : List ℕ = c ∷ cs in
     let p = cond_some (well_begun w) (digits_from 0 w) n h in
@@ -70,12 +71,4 @@ pub byte_repeats : (w : List ℕ) (n : ℕ) → byte_of w ≡ Some n → decimal
 byte_repeats w n h =
     let p = then_some (number_of w) (λ m. cond (leb m 255) (Some m) None) n h in
     let q = cond_some (leb p.0 255) (Some p.0) n p.2 in
-    ap decimal (sym (same_some p.0 n q.1)) ∙ number_repeats w p.0 p.1
-
-pub variable_repeats : (w : List ℕ) (n : ℕ) → variable_of w ≡ Some n → codes "x" ++ decimal n ≡ w
-variable_repeats [] n h = absurd (not_none n h)
-variable_repeats (c ∷ cs) n h =
-    let p = cond_some (eqb c 120) (byte_of cs) n h in
-    let x = eqb-true c 120 p.0 in
-    let e = byte_repeats cs n p.1 in
-    (λ k. sym x k ∷ e k)
+    ap decimal (sym (same_Some p.0 n q.1)) ∙ number_repeats w p.0 p.1

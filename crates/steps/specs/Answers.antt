@@ -1,5 +1,5 @@
 -- What is printed for an input.
-use Rattle.std.specs.Prelude.{ℕ, cond, List, [], ◌∷◌, ◌++◌, Ok, Err, Result}
+use Rattle.std.specs.Prelude.{ℕ, List, [], ◌∷◌, ◌++◌, Ok, Err, Result}
 use Rattle.memory.specs.declared.shapes.Shape.{Shape}
 use Rattle.memory.specs.Machine.{Machine}
 use Rattle.memory.specs.Fences.{fenced}
@@ -12,18 +12,18 @@ use Rattle.steps.specs.declared.settings.Setting.{Setting}
 use Rattle.steps.specs.declared.settings.Failing.{Failing}
 use Rattle.steps.specs.Asking.{take_of}
 use Rattle.steps.specs.Cutting.{Numbered, lines_of, numbered}
-use Rattle.steps.specs.Outcomes.{outcome_of, config_of, goes, no_tally, tallied}
+use Rattle.steps.specs.Outcomes.{outcome_of, config_of, no_tally, tallied}
 use Rattle.steps.specs.Settings.{setting_of}
 use Rattle.steps.specs.Words.{report_words, failing_words, tally_words}
 
--- What the lines print over a machine in a configuration, after the outcomes that were counted: a report of each, up to the first
--- that is refused or wrong, and then the numbers.
+-- What the lines print over a machine in a configuration, after the actions that were counted: a report of each, up to the first
+-- that is refused or wrong, and then the numbers. The lines after that one stand on it, so they are not read.
 abbrev pub performing : {Config : Type 0} → Machine Config → Config → Tally → List Numbered → List ℕ
 performing m s t [] = tally_words t
 performing m s t (l ∷ ls) =
     let o = outcome_of m s (take_of l.bytes) in
     report_words l.number o ++
-    cond (goes o) (performing m (config_of m s (take_of l.bytes)) (tallied t o) ls) (tally_words (tallied t o))
+    elim o [ Ok d ↦ performing m (config_of m s (take_of l.bytes)) (tallied t d) ls | Err e ↦ tally_words t ]
 
 -- over a machine, from its start at a shape
 abbrev pub started : {Config : Type 0} → Machine Config → Shape → List Numbered → List ℕ

@@ -1,5 +1,5 @@
 -- What a line asks for: the process, the action and the choice.
-use Rattle.std.specs.Prelude.{ℕ, cond, List, [], ◌∷◌, length, Some, None, Ok, codes, Option, Result, ◌==◌}
+use Rattle.std.specs.Prelude.{ℕ, cond, List, Some, None, Ok, codes, Option, Result}
 use Rattle.std.specs.Option.{ok_or}
 use Rattle.std.specs.Str.{bytes_eq}
 use Rattle.memory.specs.declared.actions.Action.{Action}
@@ -10,7 +10,7 @@ use Rattle.steps.specs.declared.asking.Verb.TheVariants.{Local as ToLocal, Read 
 use Rattle.steps.specs.declared.wrongs.Wrong.{Wrong}
 use Rattle.steps.specs.declared.wrongs.Wrong.TheVariants.{Process, Action as NoAction, Variable, Value, Choice}
 use Rattle.steps.specs.Chains.{then, onward}
-use Rattle.steps.specs.Cutting.{front, back, after_space}
+use Rattle.steps.specs.Cutting.{front, back, after, word_after}
 use Rattle.steps.specs.Numbers.{number_of, byte_of}
 
 abbrev pub verb_of : List ℕ → Option Verb
@@ -22,27 +22,16 @@ verb_of w =
     (cond (bytes_eq w (codes "fence")) (Some ToFence)
     None))))
 
--- a variable is written as x and its number
-abbrev pub variable_of : List ℕ → Option ℕ
-variable_of [] = None
-variable_of (c ∷ cs) = cond (c == 120) (byte_of cs) None
-
--- the next word, read, and what follows it
-abbrev pub word_by : {X : Type 0} → (List ℕ → Option X) → List ℕ → Option (X × List ℕ)
-word_by read s = then (after_space s) (λ p. then (read p.0) (λ x. Some (x, p.1)))
-
 -- the choice ends its line
 abbrev pub choice_at : List ℕ → Option ℕ
-choice_at s =
-    then (after_space s) (λ p. cond (bytes_eq p.0 (codes "choice"))
-    (then (after_space p.1) (λ q. cond (length q.1 == 0) (number_of q.0) None))
-    None)
+choice_at s = then (after (codes " choice ") s) number_of
 
+-- a variable is written as x and its number
 abbrev pub variable_at : List ℕ → Result (ℕ × List ℕ) Wrong
-variable_at s = ok_or (word_by variable_of s) Variable
+variable_at s = ok_or (word_after (codes " x") byte_of s) Variable
 
 abbrev pub value_at : List ℕ → Result (ℕ × List ℕ) Wrong
-value_at s = ok_or (word_by byte_of s) Value
+value_at s = ok_or (word_after (codes " ") byte_of s) Value
 
 -- what follows the name of an action
 abbrev pub operands_at : Verb → List ℕ → Result (Action × List ℕ) Wrong
@@ -54,7 +43,7 @@ operands_at ToSwap s =
 operands_at ToFence s = Ok (Fence, s)
 
 abbrev pub action_at : List ℕ → Result (Action × List ℕ) Wrong
-action_at s = onward (ok_or (word_by verb_of s) NoAction) (λ v. operands_at v.0 v.1)
+action_at s = onward (ok_or (word_after (codes " ") verb_of s) NoAction) (λ v. operands_at v.0 v.1)
 
 abbrev pub take_of : List ℕ → Result Take Wrong
 take_of l =

@@ -13,9 +13,6 @@ onward (Err e) f = Err e
 abbrev pub plain : {X : Type 0} → X × Bor (List ℕ) → X × List ℕ
 plain p = (p.0, p.1.now)
 
-abbrev pub plain_both : Bor (List ℕ) × Bor (List ℕ) → List ℕ × List ℕ
-plain_both p = (p.0.now, p.1.now)
-
 abbrev pub same : {X : Type 0} → X → X
 same x = x
 

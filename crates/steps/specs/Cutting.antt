@@ -1,5 +1,7 @@
 -- A text cut at a byte: its lines, and the words of a line.
-use Rattle.std.specs.Prelude.{ℕ, ◌+◌, cond, List, [], ◌∷◌, Some, None, Option, ◌==◌}
+use Rattle.std.specs.Prelude.{ℕ, ◌+◌, cond, List, [], ◌∷◌, length, take, drop, Some, None, Option, ◌==◌}
+use Rattle.std.specs.Str.{bytes_eq}
+use Rattle.steps.specs.Chains.{then}
 
 -- what stands before the first byte e
 abbrev pub front : ℕ → List ℕ → List ℕ
@@ -11,10 +13,13 @@ abbrev pub back : ℕ → List ℕ → List ℕ
 back e [] = []
 back e (c ∷ cs) = cond (c == e) (c ∷ cs) (back e cs)
 
--- the word after a space, and what follows it
-abbrev pub after_space : List ℕ → Option (List ℕ × List ℕ)
-after_space [] = None
-after_space (c ∷ cs) = cond (c == 32) (Some (front 32 cs, back 32 cs)) None
+-- what follows a beginning of the text
+abbrev pub after : List ℕ → List ℕ → Option (List ℕ)
+after start s = cond (bytes_eq (take (length start) s) start) (Some (drop (length start) s)) None
+
+-- the word after a beginning, as it is read, and what follows it
+abbrev pub word_after : {X : Type 0} → List ℕ → (List ℕ → Option X) → List ℕ → Option (X × List ℕ)
+word_after start read s = then (after start s) (λ r. then (read (front 32 r)) (λ x. Some (x, back 32 r)))
 
 -- a byte in front of the first line
 abbrev pub begun : ℕ → List (List ℕ) → List (List ℕ)

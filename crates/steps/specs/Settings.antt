@@ -12,7 +12,7 @@ use Rattle.steps.specs.declared.settings.Failing.{Failing}
 use Rattle.steps.specs.declared.settings.Failing.TheVariants.{NoMemory, NoShape, At}
 use Rattle.steps.specs.declared.wrongs.Wrong.TheVariants.{Memory, Shape as UnreadShape}
 use Rattle.steps.specs.Chains.{then, onward}
-use Rattle.steps.specs.Cutting.{front, back, after_space, Numbered}
+use Rattle.steps.specs.Cutting.{word_after, Numbered}
 use Rattle.steps.specs.Numbers.{byte_of}
 
 abbrev pub kind_of : List ℕ → Option Kind
@@ -53,19 +53,13 @@ shape_if p v n false h = None
 abbrev pub shape_by : ℕ → ℕ → ℕ → Option Shape
 shape_by p v n = shape_if p v n (limited p v n) (within p v n)
 
--- a word that is this name, then a number
-abbrev pub number_named : List ℕ → List ℕ × List ℕ → Option (ℕ × List ℕ)
-number_named name p =
-    cond (bytes_eq p.0 name)
-    (then (after_space p.1) (λ q. then (byte_of q.0) (λ n. Some (n, q.1))))
-    None
-
+-- each name, then its number
 abbrev pub shape_of : List ℕ → Option Shape
 shape_of l =
-    then (number_named (codes "processes") (front 32 l, back 32 l)) (λ p.
-    then (after_space p.1) (λ v_word. then (number_named (codes "variables") v_word) (λ v.
-    then (after_space v.1) (λ n_word. then (number_named (codes "ceiling") n_word) (λ n.
-    cond (length n.1 == 0) (shape_by p.0 v.0 n.0) None)))))
+    then (word_after (codes "processes ") byte_of l) (λ p.
+    then (word_after (codes " variables ") byte_of p.1) (λ v.
+    then (word_after (codes " ceiling ") byte_of v.1) (λ n.
+    cond (length n.1 == 0) (shape_by p.0 v.0 n.0) None)))
 
 abbrev pub shape_after : Kind → List Numbered → Result (Setting × List Numbered) Failing
 shape_after k [] = Err NoShape

@@ -1,11 +1,12 @@
 -- What is printed of a line, of a setting that fails, and at the end.
-use Rattle.std.specs.Prelude.{ℕ, cond, List, ◌++◌, codes, decimal}
+use Rattle.std.specs.Prelude.{ℕ, cond, List, ◌++◌, Ok, Err, codes, decimal, Result}
 use Rattle.wording.specs.Amounts.{amount_words}
 use Rattle.memory.specs.declared.actions.Action.{Action}
 use Rattle.memory.specs.declared.actions.Action.TheVariants.{Local, Read, Write, Swap, Fence}
 use Rattle.memory.specs.declared.actions.Take.{Take}
-use Rattle.steps.specs.declared.outcomes.Outcome.{Outcome}
-use Rattle.steps.specs.declared.outcomes.Outcome.TheVariants.{Done, Refused, Wrong as Misread}
+use Rattle.steps.specs.declared.outcomes.Done.{Done}
+use Rattle.steps.specs.declared.outcomes.Stop.{Stop}
+use Rattle.steps.specs.declared.outcomes.Stop.TheVariants.{Refused, Wrong as Misread}
 use Rattle.steps.specs.declared.outcomes.Tally.{Tally}
 use Rattle.steps.specs.declared.settings.Failing.{Failing}
 use Rattle.steps.specs.declared.settings.Failing.TheVariants.{NoMemory, NoShape, At}
@@ -36,14 +37,23 @@ take_words k = decimal k.process ++ (codes " " ++ (action_words k.action ++ (cod
 abbrev pub wrong_words : ℕ → Wrong → List ℕ
 wrong_words n w = codes "line " ++ (decimal n ++ (codes ": wrong: " ++ (expected w ++ codes "\n")))
 
+-- what came of a line that was performed, and of one that was not
+abbrev pub done_words : Done → List ℕ
+done_words d =
+    take_words d.take ++ (codes ": " ++ (decimal d.offered ++ (codes " offered, saw " ++ (decimal d.seen.value ++
+    cond d.seen.switch (codes ", a switch") (codes "")))))
+
+abbrev pub stop_words : Stop → List ℕ
+stop_words (Refused k offered) = take_words k ++ (codes ": refused, " ++ (decimal offered ++ codes " offered"))
+stop_words (Misread w) = codes "wrong: " ++ expected w
+
+abbrev pub outcome_words : Result Done Stop → List ℕ
+outcome_words (Ok d) = done_words d
+outcome_words (Err e) = stop_words e
+
 -- what came of line n
-abbrev pub report_words : ℕ → Outcome → List ℕ
-report_words n (Done k offered seen) =
-    codes "line " ++ (decimal n ++ (codes ": " ++ (take_words k ++ (codes ": " ++ (decimal offered ++ (codes " offered, saw " ++ (decimal seen.value ++
-    (cond seen.switch (codes ", a switch") (codes "") ++ codes "\n"))))))))
-report_words n (Refused k offered) =
-    codes "line " ++ (decimal n ++ (codes ": " ++ (take_words k ++ (codes ": refused, " ++ (decimal offered ++ codes " offered\n")))))
-report_words n (Misread w) = wrong_words n w
+abbrev pub report_words : ℕ → Result Done Stop → List ℕ
+report_words n o = codes "line " ++ (decimal n ++ (codes ": " ++ (outcome_words o ++ codes "\n")))
 
 abbrev pub failing_words : Failing → List ℕ
 failing_words NoMemory = codes "wrong: the input ends before a memory is named\n"

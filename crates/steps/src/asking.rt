@@ -1,15 +1,13 @@
 // What a line of the input asks for.
 
 ghost use Rattle.std.specs.Prelude.{◌≡◌, IfOk};
-ghost use Rattle.std.specs.Option.{option_map};
 ghost use Rattle.std.specs.Result.{result_map_both as both_mapped};
 ghost use Rattle.steps.specs.Chains.{plain, same};
-ghost use Rattle.steps.specs.Numbers.{byte_of};
-ghost use Rattle.steps.specs.Asking.{verb_of, variable_of, word_by, choice_at, operands_at, action_at, take_of};
+ghost use Rattle.steps.specs.Asking.{verb_of, choice_at, operands_at, action_at, take_of};
 ghost use Rattle.steps.specs.Words.{take_words};
 
-use super::cutting::{cut, is_same, next_word};
-use super::numbers::{byte, number};
+use super::cutting::{cut, word_after};
+use super::numbers::{byte, byte_after, number};
 use super::wrongs::Wrong;
 use memory::{Action, Take};
 
@@ -26,94 +24,48 @@ pub enum Verb {
 fn verb_named(word: &[u8]) -> Option<Verb>
     ensures { result ≡ verb_of word.now }
 {
-    if is_same(word, b"local") {
-        Some(Verb::Local)
-    } else if is_same(word, b"read") {
-        Some(Verb::Read)
-    } else if is_same(word, b"write") {
-        Some(Verb::Write)
-    } else if is_same(word, b"swap") {
-        Some(Verb::Swap)
-    } else if is_same(word, b"fence") {
-        Some(Verb::Fence)
-    } else {
-        None
+    match word {
+        b"local" => Some(Verb::Local),
+        b"read" => Some(Verb::Read),
+        b"write" => Some(Verb::Write),
+        b"swap" => Some(Verb::Swap),
+        b"fence" => Some(Verb::Fence),
+        _ => None,
     }
-}
-
-// The name of an action, and what follows it.
-fn read_verb(text: &[u8]) -> Option<(Verb, &[u8])>
-    ensures { option_map plain result ≡ word_by verb_of text.now }
-{
-    let (word, rest) = next_word(text)?;
-    Some((verb_named(word)?, rest))
-}
-
-// A value, and what follows it.
-fn read_value(text: &[u8]) -> Option<(u8, &[u8])>
-    ensures { option_map plain result ≡ word_by byte_of text.now }
-{
-    let (word, rest) = next_word(text)?;
-    Some((byte(word)?, rest))
-}
-
-// A variable is written as x and its number.
-fn variable(word: &[u8]) -> Option<u8>
-    ensures { result ≡ variable_of word.now }
-{
-    if word.is_empty() || word[0] != b'x' {
-        return None;
-    }
-    byte(&word[1..])
-}
-
-fn read_variable(text: &[u8]) -> Option<(u8, &[u8])>
-    ensures { option_map plain result ≡ word_by variable_of text.now }
-{
-    let (word, rest) = next_word(text)?;
-    Some((variable(word)?, rest))
 }
 
 // The choice ends its line.
 fn read_choice(text: &[u8]) -> Option<usize>
     ensures { result ≡ choice_at text.now }
 {
-    let (word, rest) = next_word(text)?;
-    if !is_same(word, b"choice") {
-        return None;
-    }
-    let (word, rest) = next_word(rest)?;
-    if !rest.is_empty() {
-        return None;
-    }
-    number(word)
+    number(text.strip_prefix(b" choice ")?)
 }
 
 fn read_write(text: &[u8]) -> Result<(Action, &[u8]), Wrong>
     ensures { both_mapped plain same result ≡ operands_at Verb.Write text.now }
 {
-    let (variable, rest) = read_variable(text).ok_or(Wrong::Variable)?;
-    let (value, rest) = read_value(rest).ok_or(Wrong::Value)?;
+    let (variable, rest) = byte_after(text, b" x").ok_or(Wrong::Variable)?;
+    let (value, rest) = byte_after(rest, b" ").ok_or(Wrong::Value)?;
     Ok((Action::Write { variable, value }, rest))
 }
 
 fn read_swap(text: &[u8]) -> Result<(Action, &[u8]), Wrong>
     ensures { both_mapped plain same result ≡ operands_at Verb.Swap text.now }
 {
-    let (variable, rest) = read_variable(text).ok_or(Wrong::Variable)?;
-    let (old, rest) = read_value(rest).ok_or(Wrong::Value)?;
-    let (new, rest) = read_value(rest).ok_or(Wrong::Value)?;
+    let (variable, rest) = byte_after(text, b" x").ok_or(Wrong::Variable)?;
+    let (old, rest) = byte_after(rest, b" ").ok_or(Wrong::Value)?;
+    let (new, rest) = byte_after(rest, b" ").ok_or(Wrong::Value)?;
     Ok((Action::Swap { variable, old, new }, rest))
 }
 
 fn read_action(text: &[u8]) -> Result<(Action, &[u8]), Wrong>
     ensures { both_mapped plain same result ≡ action_at text.now }
 {
-    let (verb, rest) = read_verb(text).ok_or(Wrong::Action)?;
+    let (verb, rest) = word_after(text, b" ", verb_named).ok_or(Wrong::Action)?;
     match verb {
         Verb::Local => Ok((Action::Local, rest)),
         Verb::Read => {
-            let (variable, rest) = read_variable(rest).ok_or(Wrong::Variable)?;
+            let (variable, rest) = byte_after(rest, b" x").ok_or(Wrong::Variable)?;
             Ok((Action::Read { variable }, rest))
         }
         Verb::Write => read_write(rest),

@@ -1,23 +1,17 @@
 // A text cut at a byte, and the words of a line.
 
-ghost use Rattle.std.specs.Prelude.{◌≡◌, ◌≤◌, length, take, drop};
+ghost use Rattle.std.specs.Prelude.{◌≡◌, ◌==◌, ℕ, List, Option};
+ghost use Rattle.std.specs.Fn.{FnOnceReturnsAt};
 ghost use Rattle.std.specs.Option.{option_map};
-ghost use Rattle.std.specs.Str.{bytes_eq};
-ghost use Rattle.steps.specs.Chains.{plain_both};
-ghost use Rattle.steps.specs.Cutting.{front, back, after_space};
+ghost use Rattle.std.specs.List.{position};
+ghost use Rattle.steps.specs.Chains.{plain};
+ghost use Rattle.steps.specs.Cutting.{front, back, word_after};
 
-// How many bytes stand before the first one that is the end.
-fn reach(text: &[u8], end: u8) -> usize
-    ensures within { result ≤ length text.now }
-    ensures before { take result text.now ≡ front end text.now }
-    ensures after { drop result text.now ≡ back end text.now }
+// Where the end stands first.
+fn place(text: &[u8], end: u8) -> Option<usize>
+    ensures { result ≡ position (λ b. b == end) text.now }
 {
-    for (i, b) in text.iter().enumerate() {
-        if *b == end {
-            return i;
-        }
-    }
-    text.len()
+    text.iter().position(|b| *b == end)
 }
 
 // What stands before the first such byte, and what follows from there.
@@ -25,22 +19,18 @@ pub(crate) fn cut(text: &[u8], end: u8) -> (&[u8], &[u8])
     ensures before { result.0.now ≡ front end text.now }
     ensures after { result.1.now ≡ back end text.now }
 {
-    text.split_at(reach(text, end))
+    text.split_at(place(text, end).unwrap_or(text.len()))
 }
 
-// Whether two texts are the same.
-pub(crate) fn is_same(text: &[u8], other: &[u8]) -> bool
-    ensures { result ≡ bytes_eq text.now other.now }
+// The word after a beginning of the text, as it is read, and what follows it.
+pub(crate) fn word_after<'a, T, F: FnOnce(&[u8]) -> Option<T>>(
+    text: &'a [u8],
+    start: &[u8],
+    read: F,
+) -> Option<(T, &'a [u8])>
+    requires { F.IsAlwaysCallable read }
+    ensures { (meant : List ℕ → Option T) → ((w : List ℕ) (r : Option T) → FnOnceReturnsAt F.FnOnce read w r → r ≡ meant w) → option_map plain result ≡ word_after start.now meant text.now }
 {
-    text == other
-}
-
-// The word after a space, and what follows it.
-pub(crate) fn next_word(text: &[u8]) -> Option<(&[u8], &[u8])>
-    ensures { option_map plain_both result ≡ after_space text.now }
-{
-    if text.is_empty() || text[0] != b' ' {
-        return None;
-    }
-    Some(cut(&text[1..], b' '))
+    let (word, rest) = cut(text.strip_prefix(start)?, b' ');
+    Some((read(word)?, rest))
 }

@@ -16,16 +16,10 @@ mod telling;
 mod wrongs;
 
 use answering::answer;
+use intake::read_all;
 use std::io;
-use std::io::Read;
-
-fn read_input(rt: &HostRuntime) -> io::Result<Vec<u8>> {
-    let mut text = Vec::new(rt.alloc());
-    rt.stdin().read_to_end(&mut text)?;
-    Ok(text)
-}
 
 fn main(rt: HostRuntime) -> io::Result<()> {
-    let text = read_input(&rt)?;
+    let text = read_all(rt.alloc(), &mut rt.stdin())?;
     rt.print(answer(rt.alloc(), text.as_slice())?)
 }

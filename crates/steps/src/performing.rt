@@ -8,31 +8,34 @@ ghost use Rattle.steps.specs.Reading.{left_of};
 use super::acting::act;
 use super::lines::Lines;
 use super::outcomes::Tally;
-use super::telling::Report;
 use memory::Memory;
 use std::alloc::{AllocError, Global};
+use std::fmt::Write;
 
-// Performs the lines until one is refused or wrong, and tells what came of each.
+// Performs the lines until one is refused or wrong, and tells what came of each. The lines after that one
+// stand on it, so they are not read.
 pub(crate) fn perform<M: Memory>(
     memory: &mut M,
     heap: Global,
-    lines: &mut Lines,
+    lines: Lines,
 ) -> Result<String, AllocError>
-    ensures { IfOk result (λ s. string_bytes s ≡ performing M.machine (M.config memory.old) no_tally (left_of lines.old)) }
+    ensures { IfOk result (λ s. string_bytes s ≡ performing M.machine (M.config memory.old) no_tally (left_of lines.entry)) }
 {
     let mut told = String::new(heap);
-    let mut tally = Tally::none();
-    while let Some(line) = lines.next_line() {
-        let outcome = act(memory, line.text);
-        tally = tally.with(outcome);
-        let report = Report {
-            line: line.number,
-            outcome,
-        };
-        if !outcome.goes_on() {
-            return format!(in heap; "{told}{report}{tally}");
+    let mut tally = Tally::default();
+    for line in lines {
+        let number = line.number;
+        match act(memory, line.text) {
+            Ok(done) => {
+                writeln!(told, "line {number}: {done}")?;
+                tally = tally.with(done);
+            }
+            Err(stop) => {
+                writeln!(told, "line {number}: {stop}")?;
+                break;
+            }
         }
-        told.push_str(format!(in heap; "{report}")?.as_str())?;
     }
-    format!(in heap; "{told}{tally}")
+    write!(told, "{tally}")?;
+    Ok(told)
 }

@@ -1,8 +1,9 @@
 // The lines of the input, one after another.
 
-ghost use Rattle.std.specs.Prelude.{◌≡◌, ◌<◌, true, drop, is_some};
+ghost use Rattle.std.specs.Prelude.{◌≡◌, ◌<◌, ◌∷◌, length, drop};
+ghost use Rattle.std.specs.Iterator.{YieldsFirstBy, item_count};
 ghost use Rattle.steps.specs.Cutting.{lines_of, numbered};
-ghost use Rattle.steps.specs.Reading.{headed, left_of};
+ghost use Rattle.steps.specs.Reading.{left_of, the_line};
 
 use super::cutting::cut;
 use super::lines::{Line, Lines};
@@ -11,10 +12,18 @@ use super::lines::{Line, Lines};
 fn after_end(text: &[u8]) -> &[u8]
     ensures { result.now ≡ drop 1 text.now }
 {
-    if text.is_empty() {
-        return text;
-    }
-    &text[1..]
+    text.get(1..).unwrap_or(text)
+}
+
+// The first line of a text, and what follows its end.
+#[tactic(auto, using(crate::proofs::Turns::line_first, crate::proofs::Turns::less_left))]
+fn split_line(text: &[u8]) -> (&[u8], &[u8])
+    requires { 0 < length text.now }
+    ensures lines { lines_of text.now ≡ result.0.now ∷ lines_of result.1.now }
+    ensures shorter { length result.1.now < length text.now }
+{
+    let (line, rest) = cut(text, b'\n');
+    (line, after_end(rest))
 }
 
 impl<'a> Lines<'a> {
@@ -26,15 +35,20 @@ impl<'a> Lines<'a> {
             passed: 0,
         }
     }
+}
 
-    // The next line that is not empty.
-    pub(crate) fn next_line(&mut self) -> Option<Line<'a>>
-        ensures lines { left_of self.old ≡ headed result (left_of self.new) }
-        ensures passes { is_some result ≡ true → self.old.passed < self.new.passed }
-    {
+// The lines that are not empty.
+impl<'a> Iterator for Lines<'a> {
+    type Item = Line<'a>;
+
+    ghost next_gives = { YieldsFirstBy the_line left_of };
+
+    ghost remaining = { item_count left_of };
+
+    fn next(&mut self) -> Option<Line<'a>> {
         while !self.rest.is_empty() {
-            let (text, back) = cut(self.rest, b'\n');
-            self.rest = after_end(back);
+            let (text, rest) = split_line(self.rest);
+            self.rest = rest;
             self.passed += 1;
             if !text.is_empty() {
                 return Some(Line {

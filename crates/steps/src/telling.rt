@@ -1,9 +1,9 @@
 // What is printed.
 
 ghost use Rattle.std.specs.Prelude.{◌≡◌, if◌then◌else◌, Some, codes};
-ghost use Rattle.steps.specs.Words.{expected, action_words, take_words, report_words, failing_words, tally_words};
+ghost use Rattle.steps.specs.Words.{expected, action_words, take_words, done_words, stop_words, failing_words, tally_words};
 
-use super::outcomes::{Outcome, Tally};
+use super::outcomes::{Done, Stop, Tally};
 use super::settings::Failing;
 use super::wrongs::Wrong;
 use memory::{Action, Take};
@@ -29,7 +29,7 @@ impl fmt::Display for Wrong {
     }
 }
 
-// An action as it is written in the input.
+// An action as it is written in the input. The type is another crate's, so `Display` cannot be written for it here.
 #[derive(Drop)]
 struct Asked(Action);
 
@@ -47,7 +47,7 @@ impl fmt::Display for Asked {
     }
 }
 
-// The whole line as it is written in the input.
+// The whole line as it is written in the input; its type is another crate's too.
 #[derive(Drop)]
 struct Request(Take);
 
@@ -69,37 +69,28 @@ fn mark(switch: bool) -> &'static str
     if switch { ", a switch" } else { "" }
 }
 
-// What came of the line of a number.
-#[derive(Drop)]
-pub struct Report {
-    pub line: usize,
-    pub outcome: Outcome,
-}
-
-impl fmt::Display for Report {
-    ghost output = { λ r. Some (report_words r.line r.outcome) };
+impl fmt::Display for Done {
+    ghost output = { λ d. Some (done_words d) };
 
     fn fmt<W: fmt::Write>(&self, f: &mut fmt::Formatter<W>) -> fmt::Result {
-        let line = self.line;
-        match self.outcome {
-            Outcome::Done {
-                take,
-                offered,
-                seen,
-            } => {
+        let request = Request(self.take);
+        let offered = self.offered;
+        let value = self.seen.value;
+        let mark = mark(self.seen.switch);
+        write!(f, "{request}: {offered} offered, saw {value}{mark}")
+    }
+}
+
+impl fmt::Display for Stop {
+    ghost output = { λ s. Some (stop_words s) };
+
+    fn fmt<W: fmt::Write>(&self, f: &mut fmt::Formatter<W>) -> fmt::Result {
+        match *self {
+            Stop::Refused { take, offered } => {
                 let request = Request(take);
-                let value = seen.value;
-                let mark = mark(seen.switch);
-                writeln!(
-                    f,
-                    "line {line}: {request}: {offered} offered, saw {value}{mark}"
-                )
+                write!(f, "{request}: refused, {offered} offered")
             }
-            Outcome::Refused { take, offered } => {
-                let request = Request(take);
-                writeln!(f, "line {line}: {request}: refused, {offered} offered")
-            }
-            Outcome::Wrong(wrong) => writeln!(f, "line {line}: wrong: {wrong}"),
+            Stop::Wrong(wrong) => write!(f, "wrong: {wrong}"),
         }
     }
 }
