@@ -18,8 +18,9 @@ pub struct Take {
     pub choice: usize,
 }
 
-// What a process sees by a step: a value, 0 for Local and Write, and whether the step is a switch.
-#[derive(Clone, Copy)]
+// What a process sees by a step: a value, 0 for Local and Write, as a law of every memory says, and whether the
+// step is a switch.
+#[derive(Clone, Copy, Default)]
 pub struct Seen {
     pub value: u8,
     pub switch: bool,

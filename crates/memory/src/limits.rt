@@ -8,6 +8,7 @@ impl Shape {
     pub fn new(processes: u8, variables: u8, ceiling: u8) -> Option<Shape>
         ensures { Shaped processes variables ceiling result }
     {
+        // An `if`, since `then` takes a closure, which would not know of the limits that a shape carries.
         if (1..=4).contains(&processes) && (1..=4).contains(&variables) && ceiling <= 24 {
             Some(Shape {
                 processes,

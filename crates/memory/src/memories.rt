@@ -10,9 +10,10 @@ use super::shapes::Shape;
 
 // A memory means a configuration: where it starts for a shape, how many choices a process has for an
 // action, and where each choice leads. Code over a memory is proved against this meaning alone.
-// An action goes by value, as a parameter of its own, to every memory's offers and take.
+// An action goes by value, as a parameter of its own, to every memory's offers and take: a rule of the project. The
+// functions behind them take it as it comes.
 pub trait Memory {
-    // The widest offer: no configuration offers more.
+    // The widest offer. The check proves the constant equal to the ghost number, of which the laws speak.
     const WIDEST: usize;
 
     ghost WIDEST: { ℕ };

@@ -34,8 +34,9 @@ impl ReleaseAcquire {
         }
     }
 
-    // The place of an access at a timestamp. The bound on the timestamp stands here and below in `requires`:
-    // a place has it too, but while there is one the memory cannot change.
+    // The place of an access at a timestamp. The bound on the timestamp stands here and below in `requires`, since
+    // no place can carry it there: Local and Fence name no variable, and while there is a place the memory cannot
+    // change.
     pub(crate) fn place(&self, access: Access, at: u8) -> Place<'_>
         requires { at ≤ self.now.shape.ceiling }
         ensures memory { result.memory.now ≡ self.now }
@@ -125,10 +126,7 @@ impl ReleaseAcquire {
                 let access = Access { process, variable };
                 let view = self.place(access, at).view().raised(access, at);
                 self.post(access, at, Message { value, view });
-                Seen {
-                    value: 0,
-                    switch: false,
-                }
+                Seen::default()
             }
             Action::Swap { variable, new, .. } => {
                 let access = Access { process, variable };
@@ -137,10 +135,7 @@ impl ReleaseAcquire {
                 self.post(access, at + 1, Message { value: new, view });
                 taken.seen
             }
-            Action::Local | Action::Fence => Seen {
-                value: 0,
-                switch: false,
-            },
+            Action::Local | Action::Fence => Seen::default(),
         }
     }
 }

@@ -22,10 +22,9 @@ mod tests {
     }
 
     fn shape(processes: u8, variables: u8, ceiling: u8) -> Result<Shape, Fail> {
-        match Shape::new(processes, variables, ceiling) {
-            Some(shape) => Ok(shape),
-            None => Err(Fail::new("a number outside its limits")),
-        }
+        Shape::new(processes, variables, ceiling).ok_or_else(|| Fail::new(
+            "a number outside its limits",
+        ))
     }
 
     fn take(process: u8, action: Action, choice: usize) -> Take {

@@ -43,6 +43,7 @@ fn field(a: u8, b: u8, c: u8, d: u8) -> Option<u16>
     if a == b' ' {
         return (b > b'0').then_some(hundreds);
     }
+    // An `if`, since `then` takes a closure, which would not know of the test that the difference needs.
     if a.is_ascii_digit() && a > b'0' {
         Some(u16::from(a - b'0') * 1000 + hundreds)
     } else {
@@ -60,6 +61,7 @@ pub fn read_line<const N: usize>(bytes: &[u8]) -> Option<[u16; N]>
         return None;
     }
     let mut numbers = [0; N];
+    // Written by index, here and below: a proof does not know what is written through an adapter of `iter_mut`.
     for (i, &[a, b, c, d]) in fields.iter().enumerate() {
         numbers[i] = field(a, b, c, d)?;
     }

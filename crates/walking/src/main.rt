@@ -71,13 +71,15 @@ fn actions(seed: u32) -> [Action; 3] {
 fn ask<M: Memory>(memory: &M, process: u8, seed: u32) -> u32 {
     let mut sum = 0u32;
     for action in actions(seed) {
+        // No offer is wider than 9,999, by a law of every memory, so the cast keeps it.
         sum = sum.wrapping_add(memory.offers(process, action) as u32);
     }
     sum
 }
 
 // So many turns over the shape. Each takes an action at its first or second choice, and asks
-// before how many choices there are, if the walk asks: a plain yes or no, which nothing else goes by.
+// before how many choices there are, if the walk asks: a closure in place of the yes or no would be made at the one
+// call, and say no more.
 fn walk<M: Memory>(memory: &mut M, shape: Shape, turns: u32, asks: bool) -> Tally {
     let mut tally = Tally::default();
     let mut seed = 1;
@@ -90,6 +92,7 @@ fn walk<M: Memory>(memory: &mut M, shape: Shape, turns: u32, asks: bool) -> Tall
         if asks {
             tally.offered = tally.offered.wrapping_add(ask(memory, process, seed));
         }
+        // A cast to the wider type, for which there is no `From`.
         let action = actions(seed)[turn as usize % 3];
         match memory.take(process, action, usize::from(bit(seed, 1 << 16))) {
             Ok(seen) => tally.take(seen),
