@@ -1,8 +1,8 @@
 -- Writing a table's lines one after another into a buffer.
-use Rattle.std.proofs.Common.{◌≡◌, ℕ, ◌+◌, ◌-◌, ◌*◌, ◌<◌, ◌≤◌, Bool, true, false, cond, leb, List, [], ◌∷◌, ◌++◌, length, get_or, take, drop, Ok, Err, Result, sym, ap, ◌∙◌, refl, ap₂, append_assoc, append-nil, arith, add-one}
+use Rattle.std.proofs.Common.{◌≡◌, ℕ, ◌+◌, ◌*◌, ◌<◌, ◌≤◌, Bool, true, false, cond, leb, List, [], ◌∷◌, ◌++◌, length, get_or, take, drop, Ok, Err, Result, sym, ap, ◌∙◌, refl, ap₂, append_assoc, append-nil, arith, add-one}
 use borrow.Rule.Slice.PartMut.{put_mid}
 use Rattle.std.proofs.ByRecursion.{All-take, All-get_or}
-use Rattle.std.proofs.lemmas.List.{length-take-le, length-drop, length-map, get_or-map, take_at, drop_at, drop-drop, drop_all, take_more, take_all, take_rest}
+use Rattle.std.proofs.lemmas.List.{length-take-le, length-map, get_or-map, take_at, drop_at, drop-drop, drop_all, take_more, take_all}
 use Rattle.std.proofs.lemmas.Bool.{le-leb, lt-leb}
 use Rattle.std.specs.List.{AllByRecursion}
 use Rattle.text.specs.declared.Unwritten.{Unwritten}
@@ -26,19 +26,19 @@ line_over ns out r after small long e =
     let second = ap (λ (b : Bool). cond b (Ok (length (line_text ns)), over (line_text ns) out) (Err unwritten.Short, out)) (le-leb (length (line_text ns)) (length out) long) in
     ap (λ (p : Result ℕ Unwritten × List ℕ). p.1) (e ∙ first ∙ second)
 
-module _ (ns xs : List ℕ) (at : ℕ) (six : length ns ≡ 6) (room : at + 25 ≤ length xs) where
-  long : length (line_text ns) ≡ 25
-  long = length_line ns ∙ omega (arith, six)
+-- over the bytes of a line it is all that they hold then
+pub put_is : (ns xs after : List ℕ) (r : Result ℕ Unwritten) → length ns ≡ 6 → all_small ns ≡ true → length xs ≡ 25 → (r, after) ≡ written ns xs → after ≡ line_text ns
+put_is ns xs after r six small long e =
+    let line : length (line_text ns) ≡ 25 = length_line ns ∙ omega (arith, six) in
+    let over_all = line_over ns xs r after small (omega arith) e in
+    let none = drop_all (length (line_text ns)) xs (omega arith) in
+    over_all ∙ ap (λ (z : List ℕ). line_text ns ++ z) none ∙ append-nil (line_text ns)
 
-  pub part_long : length (line_text ns) ≤ length (take (length xs - at) (drop at xs))
-  part_long = rw (take_rest xs at) (omega (arith, long, length-drop at xs))
-
-  pub put_is : (ys : List ℕ) → ys ≡ over (line_text ns) (take (length xs - at) (drop at xs)) → put_mid at (length xs - at) xs ys ≡ take at xs ++ (line_text ns ++ drop (at + 25) xs)
-  put_is ys e =
-      let rest : drop (length (line_text ns)) (take (length xs - at) (drop at xs)) ≡ drop (at + 25) xs = ap (λ (z : List ℕ). drop (length (line_text ns)) z) (take_rest xs at) ∙ ap (λ (n : ℕ). drop n (drop at xs)) long ∙ drop-drop 25 at xs in
-      let none : drop (length xs - at) (drop at xs) ≡ [] = drop_all (length xs - at) (drop at xs) (omega (arith, length-drop at xs)) in
-      let new : ys ≡ line_text ns ++ drop (at + 25) xs = e ∙ ap (λ (z : List ℕ). line_text ns ++ z) rest in
-      ap₂ (λ (a b : List ℕ). take at xs ++ (a ++ b)) new none ∙ ap (λ (z : List ℕ). take at xs ++ z) (append-nil (line_text ns ++ drop (at + 25) xs))
+-- a line over the 25 bytes from a place on
+pub line_put : (f ys xs : List ℕ) (at k : ℕ) → k ≡ 25 → ys ≡ line_text f → put_mid at k xs ys ≡ take at xs ++ (line_text f ++ drop (at + 25) xs)
+line_put f ys xs at k e w =
+    let d = drop-drop 25 at xs in
+    cc
 
 lines_push : (fs : List (List ℕ)) (f : List ℕ) → lines_text (fs ++ (f ∷ [])) ≡ lines_text fs ++ line_text f
 lines_push [] f = append-nil (line_text f)

@@ -12,8 +12,8 @@ pub(crate) struct Scope {
     pub(crate) labels: u8,
 }
 
-// A number that counts from 1 up to a limit. Cast behind its test, as in the constant below: that nothing is
-// lost is proved, and `try_from` would be a second test.
+// A number that counts from 1 up to a limit. An `if` and a cast, as in the constant below: behind the test it is
+// proved that nothing is lost, while `then` takes a closure that knows of no test.
 fn counted(limit: u8, n: u16) -> Option<u8>
     ensures { result ≡ cond (within 1 limit n) (Some n) None }
 {

@@ -10,7 +10,8 @@ use super::rows::{Counts, MOST_ROWS};
 use super::tables::Table;
 use std::alloc::{AllocError, Global};
 
-// How many rows stand before those of each process, from how many name each.
+// How many rows stand before those of each process, from how many name each. Written out: a loop over so few
+// would say no more, and would carry an index.
 fn running_sums(labels: [u8; 5]) -> [u8; 6]
     requires { slice_index labels 0 + slice_index labels 1 + slice_index labels 2 + slice_index labels 3 + slice_index labels 4 ≤ 128 }
     ensures { result ≡ sums labels }

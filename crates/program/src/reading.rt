@@ -81,8 +81,9 @@ impl<'a> Lines<'a> {
     }
 }
 
-// The counts of a header that says how many rows follow it. Numbers behind their limits are cast, here and for
-// a row: that nothing is lost is proved, and `try_from` would add a branch that no text takes.
+// The counts of a header that says how many rows follow it. Numbers behind their limits are cast, here, for a row
+// and for the lines, of which there are at most 129: that nothing is lost is proved, and `try_from` would add a
+// branch that no text takes.
 fn header(line: [u16; 6], rows: usize) -> Result<Counts, Refusal>
     ensures { result ≡ header_read line rows }
 {

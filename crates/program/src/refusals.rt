@@ -33,8 +33,8 @@ pub enum Part {
     Table,
 }
 
-// A refusal as it is told: its number, its place and the part that found it. The numbers are the format's, and
-// nothing goes by them: code goes by the cases of the refusal.
+// A refusal as it is told: its number, its place, 0 where no line is meant, and the part that found it. The numbers
+// are the format's, and nothing goes by them: code goes by the cases of the refusal.
 #[derive(Clone, Copy, Debug, PartialEq, Eq)]
 pub struct Notice {
     pub number: u8,

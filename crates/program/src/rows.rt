@@ -3,11 +3,14 @@ ghost use Rattle.program.specs.Program.{is_term};
 
 // How many bytes a line of a table's text has.
 pub(crate) const LINE: usize = 25;
-// The most rows of a table, its most lines with the header, and the most labels of a process.
+
+// The most rows of a table.
 pub(crate) const MOST_ROWS: usize = 128;
 
+// The most lines: the rows and the header.
 pub(crate) const MOST_LINES: usize = 129;
 
+// The most labels of a process.
 pub(crate) const MOST_LABELS: u16 = 32;
 
 // What a process does at one label; each case has its own operands. Registers, variables and labels

@@ -3,8 +3,8 @@ ghost use Rattle.program.specs.Program.{kept, starts_of};
 
 use super::rows::{Counts, Row};
 
-// A program, or none yet, in rows that were reserved when the table was made. None yet is a table without rows:
-// an Option around them would give their room away.
+// A program, or none yet, in rows that were reserved when the table was made. None yet is a table without rows
+// and with counts of 0: an Option around a program would be unwrapped at every look-up.
 #[derive(Drop)]
 pub struct Table {
     pub(crate) counts: Counts,

@@ -66,13 +66,12 @@ impl Counts {
     }
 }
 
-// Writes one line of six numbers at a place. The place stands beside the buffer, since of the parts that
-// `chunks_exact_mut` lends a proof does not know what they hold in the end.
-fn put(numbers: [u16; 6], at: usize, out: &mut [u8])
-    requires { (all_small numbers ≡ true) × (at + 25 ≤ length out.old) }
-    ensures { out.new ≡ take at out.old ++ (line_text numbers ++ drop (at + 25) out.old) }
+// Writes a line of six numbers over its bytes.
+fn put(numbers: [u16; 6], line: &mut [u8])
+    requires { (all_small numbers ≡ true) × (length line.old ≡ 25) }
+    ensures { line.new ≡ line_text numbers }
 {
-    let _ = write_line(&numbers, &mut out[at..]);
+    let _ = write_line(&numbers, line);
 }
 
 impl Table {
@@ -89,9 +88,13 @@ impl Table {
             return Err(Short { needed });
         }
         // There are at most 128 rows: the cast keeps their number, and `try_from` would add an error.
-        put(self.counts.header(self.rows.len() as u16), 0, out);
+        put(
+            self.counts.header(self.rows.len() as u16),
+            &mut out[0..LINE],
+        );
         for (i, row) in self.rows.iter().enumerate() {
-            put(<[u16; 6]>::from(*row), LINE * (i + 1), out);
+            let at = LINE * (i + 1);
+            put(<[u16; 6]>::from(*row), &mut out[at..at + LINE]);
         }
         Ok(needed)
     }

@@ -13,7 +13,8 @@ mod tests {
 
     const TERM: [u16; 6] = [1, 1, 9, 0, 0, 0];
 
-    // What is told of a text: that it is accepted, or the number and the place of the refusal.
+    // What is told of a text: that it is accepted, or the number and the place of the refusal, which a user is told and
+    // which are what is tested here.
     type Told = Result<(), (u8, u8)>;
 
     // The lines of a table, and what is told of them.
@@ -280,7 +281,7 @@ mod tests {
             assert_eq!(rt; table.instruction(1, label), Some(instruction));
         }
         let mut out = [7; 251];
-        assert!(rt; matches!(table.write(&mut out), Ok(250)));
+        assert_eq!(rt; table.write(&mut out), Ok(250));
         assert!(rt; &out[0..250] == text.as_slice());
         assert_eq!(rt; out[250], 7);
         Ok(())

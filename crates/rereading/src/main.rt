@@ -15,7 +15,7 @@ use std::{env, io};
 const TURNS: u32 = 1000;
 
 // How many times a text was read and how many times it was refused, and the last refusal.
-#[derive(Clone, Copy)]
+#[derive(Clone, Copy, Default)]
 struct Outcomes {
     accepted: u32,
     refused: u32,
@@ -26,11 +26,7 @@ struct Outcomes {
 fn reread(table: &mut Table, text: &[u8], turns: u32) -> Outcomes
     ensures { (result, program table.new) ≡ repeated (program table.old) (read text.now) turns }
 {
-    let mut outcomes = Outcomes {
-        accepted: 0,
-        refused: 0,
-        last: None,
-    };
+    let mut outcomes = Outcomes::default();
     for _turn in 0..turns {
         match table.read(text) {
             Ok(()) => outcomes.accepted += 1,

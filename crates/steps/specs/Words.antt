@@ -34,9 +34,6 @@ action_words Fence = codes "fence"
 abbrev pub take_words : Take → List ℕ
 take_words k = decimal k.process ++ (codes " " ++ (action_words k.action ++ (codes " choice " ++ decimal k.choice)))
 
-abbrev pub wrong_words : ℕ → Wrong → List ℕ
-wrong_words n w = codes "line " ++ (decimal n ++ (codes ": wrong: " ++ (expected w ++ codes "\n")))
-
 -- what came of a line that was performed, and of one that was not
 abbrev pub done_words : Done → List ℕ
 done_words d =
@@ -54,6 +51,9 @@ outcome_words (Err e) = stop_words e
 -- what came of line n
 abbrev pub report_words : ℕ → Result Done Stop → List ℕ
 report_words n o = codes "line " ++ (decimal n ++ (codes ": " ++ (outcome_words o ++ codes "\n")))
+
+abbrev pub wrong_words : ℕ → Wrong → List ℕ
+wrong_words n w = report_words n (Err (Misread w))
 
 abbrev pub failing_words : Failing → List ℕ
 failing_words NoMemory = codes "wrong: the input ends before a memory is named\n"

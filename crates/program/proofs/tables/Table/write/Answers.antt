@@ -1,8 +1,9 @@
-use Rattle.std.proofs.Common.{◌≡◌, ℕ, false, eqb, sym, ap, ◌∙◌, arith, vec_len}
+use Rattle.std.proofs.Common.{◌≡◌, ℕ, ◌+◌, ◌*◌, false, length, refl, eqb, sym, ap, ◌∙◌, arith, vec_len}
 use Rattle.program.specs.declared.tables.Table.{Table}
-use Rattle.program.specs.Program.{is_nothing}
+use Rattle.text.specs.Lines.{line_text}
+use Rattle.program.specs.Program.{is_nothing, header_fields}
 use Rattle.program.specs.Tables.{program}
-use Rattle.program.proofs.Pages.{text_back, row_small, first_line, next_line, page_short, page_all}
+use Rattle.program.proofs.Pages.{text_back, line_put, row_small, first_line, next_line, page_short, page_all}
 use Rattle.program.proofs.tables.Table.write.Goals as goal
 
 module _ (t : Table) (e : false ≡ eqb (vec_len t.rows) 0) where
@@ -19,7 +20,8 @@ pub loop-i-init : goal.loop-i-init
 loop-i-init c =
     let t = c.args.self.now in
     let long = c.len-2.ensures ∙ t.rows.ok.0 in
-    first_line (program t) t.keeps (some t c.if-is_empty.ensures) c.args.out.now c.put.new.out (cc)
+    let header : c.put.new.line ≡ line_text (header_fields t.counts (length (program t).rows)) = cc in
+    first_line (program t) t.keeps (some t c.if-is_empty.ensures) c.args.out.now _ (line_put (header_fields t.counts (length (program t).rows)) c.put.new.line c.args.out.now 0 25 refl header)
 
 pub put-requires-in-loop-i : goal.put-requires-in-loop-i
 put-requires-in-loop-i c =
@@ -33,7 +35,7 @@ loop-i-preserved c =
     let t = c.args.self.now in
     let rows = c.deref-row-items.ensures.value in
     let line = rw rows at c.from.ensures in
-    next_line (program t) t.keeps (some t c.if-is_empty.ensures) c.args.out.now c.loop-i.out c.put-in-loop-i.new.out c.from.result c.loop-i.i _ line (omega arith) c.loop-i.invariant c.put-in-loop-i.ensures
+    next_line (program t) t.keeps (some t c.if-is_empty.ensures) c.args.out.now c.loop-i.out _ c.from.result c.loop-i.i _ line (omega arith) c.loop-i.invariant (line_put c.from.result c.put-in-loop-i.new.line c.loop-i.out (25 * (c.loop-i.i + 1)) _ (omega arith) c.put-in-loop-i.ensures)
 
 pub returns-clause-value : goal.returns-clause-value
 returns-clause-value c =
