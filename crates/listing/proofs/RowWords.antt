@@ -1,13 +1,11 @@
--- The words of the rows so far, of one row more, and of a whole table.
-use Rattle.std.proofs.Common.{◌≡◌, ℕ, ◌+◌, ◌<◌, ◌≤◌, List, [], ◌∷◌, ◌++◌, length, get_or, take, sym, ap, ◌∙◌, append_assoc, append-nil, take_all}
+-- The words of the rows so far, and of one row more.
+use Rattle.std.proofs.Common.{◌≡◌, ℕ, ◌+◌, ◌<◌, List, [], ◌∷◌, ◌++◌, length, get_or, take, sym, ap, ◌∙◌, append_assoc, append-nil}
 use Rattle.std.proofs.lemmas.List.{take_more}
 use Rattle.std.proofs.Output.{has_written_append, has_written_of_eq}
 use Rattle.std.specs.declared.fmt.Formatter.{Formatter}
 use Rattle.std.specs.Fmt.{IsPlainFormatter, HasWritten}
-use Rattle.program.specs.declared.rows.Counts.{Counts}
 use Rattle.program.specs.declared.rows.Row.{Row}
-use Rattle.program.specs.Program.{Program}
-use Rattle.listing.specs.Words.{row_words, rows_words, counts_words, listing}
+use Rattle.listing.specs.Words.{row_words, rows_words}
 
 one_more : (rows : List Row) (r : Row) → rows_words (rows ++ (r ∷ [])) ≡ rows_words rows ++ row_words r
 one_more [] r = append-nil (row_words r)
@@ -16,10 +14,6 @@ one_more (q ∷ rows) r = ap (λ (l : List ℕ). row_words q ++ l) (one_more row
 rows_more : (rows : List Row) (i : ℕ) (d : Row) → i < length rows → rows_words (take i rows) ++ row_words (get_or rows i d) ≡ rows_words (take (i + 1) rows)
 rows_more rows i d h = sym (ap rows_words (take_more rows i d h) ∙ one_more (take i rows) (get_or rows i d))
 
-all_rows : (p : Program) (c : Counts) (rows : List Row) (i : ℕ) → c ≡ p.counts → rows ≡ p.rows → length rows ≤ i → counts_words c (length rows) ++ rows_words (take i rows) ≡ listing p
-all_rows p c rows i ec er h =
-    ap (λ (rs : List Row). counts_words c (length rows) ++ rows_words rs) (take_all i rows h) ∙ (λ k. counts_words (ec k) (length (er k)) ++ rows_words (er k))
-
 module _ {W : Type 0} (took : W → List ℕ → W → Type 0) (f g h : Formatter W) where
   -- from f to g the rows so far were written, and from g to h the next one
   pub put_row : (rows : List Row) (i : ℕ) (d : Row) → i < length rows → HasWritten took f (rows_words (take i rows)) g → (IsPlainFormatter g → HasWritten took g (row_words (get_or rows i d)) h) → HasWritten took f (rows_words (take (i + 1) rows)) h
@@ -27,10 +21,3 @@ module _ {W : Type 0} (took : W → List ℕ → W → Type 0) (f g h : Formatte
       let old = rows_words (take i rows) in
       let one = row_words (get_or rows i d) in
       has_written_of_eq took f (old ++ one) (rows_words (take (i + 1) rows)) h (rows_more rows i d lt) (has_written_append took f old g one h before (next before.plain))
-
-  -- from f to g the line of the counts was written, and from g to h all rows
-  pub put_listing : (p : Program) (c : Counts) (rows : List Row) (i : ℕ) → c ≡ p.counts → rows ≡ p.rows → length rows ≤ i → HasWritten took f (counts_words c (length rows)) g → (IsPlainFormatter g → HasWritten took g (rows_words (take i rows)) h) → HasWritten took f (listing p) h
-  put_listing p c rows i ec er le first rest =
-      let top = counts_words c (length rows) in
-      let all = rows_words (take i rows) in
-      has_written_of_eq took f (top ++ all) (listing p) h (all_rows p c rows i ec er le) (has_written_append took f top g all h first (rest first.plain))

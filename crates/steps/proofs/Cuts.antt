@@ -1,5 +1,5 @@
 -- The place of the first byte e of a text cuts it there.
-use Rattle.std.proofs.Common.{◌≡◌, ℕ, ◌+◌, ◌≤◌, Bool, true, false, cond, not, eqb, ltb, List, [], ◌∷◌, length, take, drop, Some, None, refl, ap, ◌∙◌, add_comm, add-one, arith}
+use Rattle.std.proofs.Common.{◌≡◌, ℕ, ◌+◌, Bool, true, false, cond, not, eqb, ltb, List, [], ◌∷◌, length, take, drop, Some, None, refl, ap, ◌∙◌, add_comm, add-one, arith}
 use Rattle.std.proofs.lemmas.List.Sums.{prefix_len-le-length}
 use Rattle.std.proofs.lemmas.Bool.{ltb-false}
 use Rattle.std.specs.List.{position, position_or_len}
@@ -18,9 +18,6 @@ cut_at_is : (e : ℕ) (s : List ℕ) → cut_at e s ≡ position_or_len (λ b. e
 cut_at_is e s =
     let i = position_or_len (λ b. eqb b e) s in
     found_or (ltb i (length s)) i (length s) (λ h. let u = ltb-false i (length s) h in omega (arith, prefix_len-le-length (λ b. not (eqb b e)) s))
-
-pub cut_within : (e : ℕ) (s : List ℕ) → cut_at e s ≤ length s
-cut_within e s = omega (arith, cut_at_is e s, prefix_len-le-length (λ b. not (eqb b e)) s)
 
 front_by : (b : Bool) (c : ℕ) (cs f : List ℕ) (n : ℕ) → take n cs ≡ f → take (cond (not b) (1 + n) 0) (c ∷ cs) ≡ cond b [] (c ∷ f)
 front_by true c cs f n h = refl

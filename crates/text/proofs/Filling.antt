@@ -1,8 +1,7 @@
 -- Writing a line field by field.
-use Rattle.std.proofs.Common.{◌≡◌, ℕ, ◌+◌, ◌*◌, ◌<◌, ◌≤◌, true, List, [], ◌∷◌, ◌++◌, length, get_or, take, drop, set, Ok, Err, sym, refl, ap, ◌∙◌, append_assoc, arith}
+use Rattle.std.proofs.Common.{◌≡◌, ℕ, ◌+◌, ◌*◌, ◌<◌, ◌≤◌, true, List, [], ◌∷◌, ◌++◌, length, get_or, take, drop, set, Ok, Err, refl, ap, ◌∙◌, append_assoc, arith}
 use Rattle.std.specs.List.{flat_map}
-use Rattle.std.proofs.lemmas.List.{length-take-le, take_at, drop_at, drop-drop, take_more, take_all, flat_map_more, set_at, drop_more}
-use borrow.Rule.Slice.PartMut.{put_mid}
+use Rattle.std.proofs.lemmas.List.{length-take-le, take_all, set_at, drop_more}
 use Rattle.std.proofs.lemmas.Bool.Decides.{nat_tests}
 use Rattle.text.specs.declared.Unwritten.TheVariants.{Short}
 use Rattle.text.specs.Lines.{field_text, line_text, all_small}
@@ -30,18 +29,6 @@ written_line ns out s h = let e = length_line ns in grind (arith, nat_tests)
 module _ (ns : List ℕ) (i : ℕ) (out xs : List ℕ) (so_far : xs ≡ filled ns i out) (within : i ≤ length ns) (fits : 4 * length ns < length out) where
   front : length (flat_map field_text (take i ns)) ≡ 4 * i
   front = length_fields (take i ns) ∙ ap (λ (m : ℕ). 4 * m) (length-take-le i ns within)
-
-  pub filled_more : (k : ℕ) (field : List ℕ) → i < length ns → k ≡ 4 → field ≡ field_text (get_or ns i 0) → put_mid (4 * i) k xs field ≡ filled ns (i + 1) out
-  filled_more k field h four e =
-      let n = get_or ns i 0 in
-      let before = flat_map field_text (take i ns) in
-      let t : take (4 * i) xs ≡ before = ap (take (4 * i)) so_far ∙ take_at before (drop (4 * i) out) (4 * i) front in
-      let d : drop (4 * i) xs ≡ drop (4 * i) out = ap (drop (4 * i)) so_far ∙ drop_at before (drop (4 * i) out) (4 * i) front in
-      let g = drop-drop 4 (4 * i) out in
-      let m : 4 * i + 4 ≡ 4 * (i + 1) = omega arith in
-      let j : flat_map field_text (take (i + 1) ns) ≡ before ++ field_text n = ap (flat_map field_text) (take_more ns i 0 h) ∙ sym (flat_map_more field_text [] (take i ns) n) in
-      let a = append_assoc before (field_text n) (drop (4 * (i + 1)) out) in
-      cc
 
   filled_all : length ns ≡ i → set xs (4 * length ns) 10 ≡ over (line_text ns) out
   filled_all h =

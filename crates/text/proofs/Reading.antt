@@ -69,10 +69,6 @@ abbrev pub prepend : List ℕ → Option (List ℕ) → Option (List ℕ)
 prepend xs (Some ys) = Some (xs ++ ys)
 prepend xs None = None
 
-pub prepend_nil : (r : Option (List ℕ)) → prepend [] r ≡ r
-prepend_nil (Some ys) = refl
-prepend_nil None = refl
-
 prepend_joined : (xs : List ℕ) (n : ℕ) (r : Option (List ℕ)) → prepend xs (joined_to (Some n) r) ≡ prepend (xs ++ (n ∷ [])) r
 prepend_joined xs n (Some ys) = ap (λ (zs : List ℕ). Some zs) (sym (append_assoc xs (n ∷ []) ys))
 prepend_joined xs n None = refl

@@ -1,7 +1,6 @@
 use Rattle.std.proofs.Common.{Some, None, ◌∙◌, sym, arith, length-set, inl, inr}
-use lib.ListN.{length-replicate}
 use Rattle.text.proofs.Lines.{same_reads}
-use Rattle.text.proofs.Reading.{unread, unequal, ends_there, line_is_fields, prepend_nil, both_stop, both_more, both_all}
+use Rattle.text.proofs.Reading.{unread, unequal, ends_there, line_is_fields, both_stop, both_more, both_all}
 use Rattle.text.proofs.read_line.Goals as goal
 
 pub returns-then-ne-clause-value : goal.returns-then-ne-clause-value
@@ -14,9 +13,6 @@ returns-then-ne-clause-value g c =
 
 pub returns-then-ne-clause-words : goal.returns-then-ne-clause-words
 returns-then-ne-clause-words g c = same_reads _ _ None (returns-then-ne-clause-value g c)
-
-pub loop-i-init : goal.loop-i-init
-loop-i-init g c = record { read = prepend_nil _; long = length-replicate g.row.N 0 }
 
 pub returns-in_err-numbers-clause-value : goal.returns-in_err-numbers-clause-value
 returns-in_err-numbers-clause-value g c =
