@@ -3,7 +3,7 @@
 use Rattle.std.specs.Prelude.{ℕ, Bool, false, List, [], ◌∷◌, Some, None, Option}
 use Rattle.memory.specs.declared.actions.Action.{Action}
 use Rattle.memory.specs.declared.shapes.Shape.{Shape}
-use Rattle.memory.specs.Shapes.{Inside}
+use Rattle.memory.specs.Shapes.{Inside, variables_of}
 use Rattle.memory.specs.Fences.{lowered}
 use Rattle.memory.specs.Rules.{Store, start, May, after, value, mark}
 use Rattle.ceiling.specs.Programs.{Program, Event, led, story_from, end_from}
@@ -19,7 +19,7 @@ pub record Scene (Place : Type 0) : Type 0 where
 
 module _ {Place : Type 0} (shape : Shape) (G : Program Place) where
   abbrev pub opening : Scene Place
-  opening = record { store = start shape.variables; places = G.begins }
+  opening = record { store = start (variables_of shape); places = G.begins }
 
   abbrev pub deed : Scene Place → ℕ → Option Action
   deed w p = G.does p (w.places p)
@@ -38,7 +38,7 @@ module _ {Place : Type 0} (shape : Shape) (G : Program Place) where
   value_of C None t = 0
 
   abbrev pub mark_of : Store → ℕ → Option Action → ℕ → Bool
-  mark_of C p (Some a) t = mark shape.variables C p (lowered a) t
+  mark_of C p (Some a) t = mark (variables_of shape) C p (lowered a) t
   mark_of C p None t = false
 
   abbrev pub next : Scene Place → Timing → Scene Place

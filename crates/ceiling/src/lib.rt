@@ -3,7 +3,8 @@
 
 #![tactic(auto)]
 
-ghost use Rattle.memory.specs.Shapes.{Shaped};
+ghost use Rattle.std.specs.Prelude.{◌≡◌};
+ghost use Rattle.memory.specs.Shapes.{shape_by};
 ghost use Rattle.ceiling.specs.Ceiling.{Enough};
 
 use memory::Shape;
@@ -11,7 +12,7 @@ use memory::Shape;
 // The shape for runs of at most so many steps, whose ceiling loses none of them; or None where a number is
 // outside its limits. Place is where a process of a program may stand.
 pub fn shape_for<Place>(processes: u8, variables: u8, steps: u8) -> Option<Shape>
-    ensures shaped { Shaped processes variables steps result }
+    ensures shaped { result ≡ shape_by processes variables steps }
     ensures enough { Enough Place steps result }
 {
     Shape::new(processes, variables, steps)

@@ -2,3 +2,4 @@ pub mod Walks
 pub mod Leads
 pub mod MessageTables
 pub mod Performed
+pub mod Shapings

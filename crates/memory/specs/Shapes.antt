@@ -1,5 +1,6 @@
 -- What a memory is made for, and what lies inside.
-use Rattle.std.specs.Prelude.{◌≡◌, ℕ, ◌≤◌, Bool, ◌&&◌, Some, None, Option, nat_le}
+use Rattle.std.specs.Prelude.{◌≡◌, ℕ, ◌≤◌, Bool, true, false, ◌&&◌, T, Some, None, Option, nat_le}
+use Rattle.std.proofs.Common.{leb→le}
 use Rattle.memory.specs.declared.actions.Action.{Action}
 use Rattle.memory.specs.declared.actions.Action.TheVariants.{Local, Read, Write, Swap, Fence}
 use Rattle.memory.specs.declared.shapes.Shape.{Shape}
@@ -12,6 +13,43 @@ Limits p v n = (1 ≤ p) × (p ≤ 4) × (1 ≤ v) × (v ≤ 4) × (n ≤ 24)
 abbrev pub Shaped : ℕ → ℕ → ℕ → Option Shape → Type 0
 Shaped p v n (Some s) = (s.processes ≡ p) × (s.variables ≡ v) × (s.ceiling ≡ n)
 Shaped p v n None = Limits p v n → ⊥
+
+-- the limits as a test, and what passes it
+abbrev pub limited : ℕ → ℕ → ℕ → Bool
+limited p v n = nat_le 1 p && (nat_le p 4 && (nat_le 1 v && (nat_le v 4 && nat_le n 24)))
+
+t_parts : (a b : Bool) → T (a && b) → T a × T b
+t_parts true b h = (tt, h)
+t_parts false b h = absurd h
+
+pub within : (p v n : ℕ) → T (limited p v n) → Limits p v n
+within p v n h =
+    let a = t_parts (nat_le 1 p) (nat_le p 4 && (nat_le 1 v && (nat_le v 4 && nat_le n 24))) h in
+    let b = t_parts (nat_le p 4) (nat_le 1 v && (nat_le v 4 && nat_le n 24)) a.1 in
+    let c = t_parts (nat_le 1 v) (nat_le v 4 && nat_le n 24) b.1 in
+    let d = t_parts (nat_le v 4) (nat_le n 24) c.1 in
+    (leb→le 1 p a.0, leb→le p 4 b.0, leb→le 1 v c.0, leb→le v 4 d.0, leb→le n 24 d.1)
+
+abbrev pub shape_if : (p v n : ℕ) (b : Bool) → (T b → Limits p v n) → Option Shape
+shape_if p v n true h = Some (record {
+  processes = p;
+  variables = v;
+  ceiling = n;
+  peopled = (h tt).0;
+  crowd = (h tt).1;
+  stored = (h tt).2;
+  small = (h tt).3;
+  low = (h tt).4;
+})
+shape_if p v n false h = None
+
+-- the same shape, by a definition that computes
+abbrev pub shape_by : ℕ → ℕ → ℕ → Option Shape
+shape_by p v n = shape_if p v n (limited p v n) (within p v n)
+
+-- its numbers, for what stands above
+abbrev pub variables_of : Shape → ℕ
+variables_of shape = shape.variables
 
 -- processes are 1 to P, and variables 0 to V
 abbrev pub IsProcess : Shape → ℕ → Type 0

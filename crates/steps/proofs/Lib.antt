@@ -1,6 +1,5 @@
 mod Cuts
 mod Turns
-mod Shapings
 mod Inversions
 mod Repeats
 mod Again

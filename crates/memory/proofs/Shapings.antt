@@ -3,8 +3,7 @@ use Rattle.std.proofs.Common.{◌≡◌, ℕ, ◌≤◌, Bool, true, false, ◌&
 use mathlib.Core.HLevel.{is_prop→PathP}
 use native.Mathlib.Bridge.{le_prop}
 use Rattle.memory.specs.declared.shapes.Shape.{Shape}
-use Rattle.memory.specs.Shapes.{Limits, Shaped}
-use Rattle.steps.specs.Settings.{limited, within, shape_if, shape_by}
+use Rattle.memory.specs.Shapes.{Limits, Shaped, limited, within, shape_if, shape_by}
 
 -- a shape is its three numbers
 same_shape : (s t : Shape) → s.processes ≡ t.processes → s.variables ≡ t.variables → s.ceiling ≡ t.ceiling → s ≡ t
