@@ -14,7 +14,7 @@ abbrev pub Shaped : ℕ → ℕ → ℕ → Option Shape → Type 0
 Shaped p v n (Some s) = (s.processes ≡ p) × (s.variables ≡ v) × (s.ceiling ≡ n)
 Shaped p v n None = Limits p v n → ⊥
 
--- the limits as a test, and what passes it
+-- the limits as a test
 abbrev pub limited : ℕ → ℕ → ℕ → Bool
 limited p v n = nat_le 1 p && (nat_le p 4 && (nat_le 1 v && (nat_le v 4 && nat_le n 24)))
 
@@ -30,6 +30,7 @@ within p v n h =
     let d = t_parts (nat_le v 4) (nat_le n 24) c.1 in
     (leb→le 1 p a.0, leb→le p 4 b.0, leb→le 1 v c.0, leb→le v 4 d.0, leb→le n 24 d.1)
 
+-- the shape where the test is passed
 abbrev pub shape_if : (p v n : ℕ) (b : Bool) → (T b → Limits p v n) → Option Shape
 shape_if p v n true h = Some (record {
   processes = p;
@@ -43,11 +44,11 @@ shape_if p v n true h = Some (record {
 })
 shape_if p v n false h = None
 
--- the same shape, by a definition that computes
+-- the shape of these numbers, or none, as a definition that computes
 abbrev pub shape_by : ℕ → ℕ → ℕ → Option Shape
 shape_by p v n = shape_if p v n (limited p v n) (within p v n)
 
--- its numbers, for what stands above
+-- for the crates above, to which the field is private
 abbrev pub variables_of : Shape → ℕ
 variables_of shape = shape.variables
 

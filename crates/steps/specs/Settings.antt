@@ -1,5 +1,5 @@
 -- The memory and the shape, which the first two lines give.
-use Rattle.std.specs.Prelude.{cond, ℕ, List, [], ◌∷◌, length, Some, None, Ok, Err, codes, Option, Result, ◌==◌}
+use Rattle.std.specs.Prelude.{ℕ, cond, List, [], ◌∷◌, length, Some, None, Ok, Err, codes, Option, Result, ◌==◌}
 use Rattle.std.specs.Option.{ok_or}
 use Rattle.std.specs.Str.{bytes_eq}
 use Rattle.memory.specs.declared.shapes.Shape.{Shape}
