@@ -11,7 +11,8 @@ use Rattle.memory.specs.Passing.{picked}
 use Rattle.memory.specs.Admits.{admits}
 use Rattle.memory.specs.Ruled.{ruled}
 use Rattle.memory.specs.Timely.{initial_timely, kept}
-use Rattle.ceiling.specs.Programs.{Program, World, Move, led, switches}
+use Rattle.ceiling.specs.declared.moves.Move.{Move}
+use Rattle.ceiling.specs.Programs.{Program, World, led, switches}
 use Rattle.ceiling.specs.Programs as chosen
 use Rattle.ceiling.specs.Timed.{Scene, Timing}
 use Rattle.ceiling.specs.Timed as timed

@@ -4,7 +4,8 @@ use Rattle.memory.specs.declared.shapes.Shape.{Shape}
 use Rattle.memory.specs.Machine.{Machine}
 use Rattle.memory.specs.Fences.{fenced}
 use Rattle.memory.specs.ReleaseAcquire.{Config, machine}
-use Rattle.ceiling.specs.Programs.{Program, Event, Move, switches}
+use Rattle.ceiling.specs.declared.moves.Move.{Move}
+use Rattle.ceiling.specs.Programs.{Program, Event, switches}
 use Rattle.ceiling.specs.Programs as chosen
 use Rattle.ceiling.specs.Timed.{Timing}
 use Rattle.ceiling.specs.Timed as timed

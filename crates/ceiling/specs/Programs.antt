@@ -1,8 +1,9 @@
 -- A program over a memory, and its runs by choices.
-use Rattle.std.specs.Prelude.{ℕ, ◌+◌, ◌<◌, Bool, false, cond, List, [], ◌∷◌, Some, None, Option, ◌==◌}
+use Rattle.std.specs.Prelude.{ℕ, ◌+◌, ◌<◌, Bool, true, false, cond, List, [], ◌∷◌, Some, None, Option, ◌==◌}
 use Rattle.memory.specs.declared.actions.Action.{Action}
 use Rattle.memory.specs.declared.shapes.Shape.{Shape}
 use Rattle.memory.specs.Machine.{Machine, Step}
+use Rattle.ceiling.specs.declared.moves.Move.{Move}
 
 -- A program: where each process begins, what it does at a place, if it has a move there, and where the value
 -- that it sees leads it.
@@ -16,6 +17,11 @@ pub record Event : Type 0 where
   pub process : ℕ
   pub value : ℕ
   pub mark : Bool
+
+-- each move's choice is below the offer where it is made
+abbrev pub offered_from : {W : Type 0} → (W → ℕ → ℕ) → (W → Move → W) → W → List Move → Type 0
+offered_from offer next w [] = Unit {0}
+offered_from offer next w (k ∷ ks) = (k.choice < offer w k.process) × offered_from offer next (next w k) ks
 
 -- what is seen of moves from w, step by step, and where they end
 abbrev pub story_from : {W Move : Type 0} → (W → Move → W) → (W → Move → Event) → W → List Move → List Event
@@ -31,18 +37,13 @@ abbrev pub switches : List Event → ℕ
 switches [] = 0
 switches (e ∷ es) = cond e.mark 1 0 + switches es
 
--- a process and one of the choices that it is offered
-pub record Move : Type 0 where
-  pub process : ℕ
-  pub choice : ℕ
-
 pub record World (Config Place : Type 0) : Type 0 where
   pub config : Config
   pub places : ℕ → Place
 
 -- the places, once p has seen a value
 abbrev pub led : {Place : Type 0} → Program Place → (ℕ → Place) → ℕ → ℕ → ℕ → Place
-led G places p v = λ q. cond (q == p) (G.leads q (places q) v) (places q)
+led G places p v = λ q. elim (q == p) [ true ↦ G.leads q (places q) v | false ↦ places q ]
 
 module _ {Config Place : Type 0} (m : Machine Config) (G : Program Place) where
   abbrev pub opening : Shape → World Config Place
@@ -60,6 +61,10 @@ module _ {Config Place : Type 0} (m : Machine Config) (G : Program Place) where
   abbrev pub deed : World Config Place → ℕ → Option Action
   deed w p = G.does p (w.places p)
 
+  -- how many choices a process has
+  abbrev pub offers : World Config Place → ℕ → ℕ
+  offers w p = offer_of w.config p (deed w p)
+
   abbrev pub made : World Config Place → Move → Step Config
   made w k = step_of w.config k.process (deed w k.process) k.choice
 
@@ -69,10 +74,8 @@ module _ {Config Place : Type 0} (m : Machine Config) (G : Program Place) where
   abbrev pub event : World Config Place → Move → Event
   event w k = record { process = k.process; value = (made w k).value; mark = (made w k).mark }
 
-  -- each move's choice is below the offer where it is made
   abbrev pub Offered : World Config Place → List Move → Type 0
-  Offered w [] = Unit {0}
-  Offered w (k ∷ ks) = (k.choice < offer_of w.config k.process (deed w k.process)) × Offered (next w k) ks
+  Offered = offered_from offers next
 
   abbrev pub story : World Config Place → List Move → List Event
   story = story_from next event

@@ -1,4 +1,4 @@
-// How high a ceiling a question needs: what release-acquire memory reaches in n steps with timestamps of any
+// Programs over a memory, and how high a ceiling a question about their runs needs: what release-acquire memory reaches in n steps with timestamps of any
 // size, it reaches under the ceiling n.
 
 #![tactic(auto)]
@@ -6,6 +6,10 @@
 ghost use Rattle.std.specs.Prelude.{◌≡◌};
 ghost use Rattle.memory.specs.Shapes.{shape_by};
 ghost use Rattle.ceiling.specs.Ceiling.{Enough};
+
+mod moves;
+
+pub use moves::Move;
 
 use memory::Shape;
 

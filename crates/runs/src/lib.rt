@@ -1,0 +1,7 @@
+// The runs of a program over a memory, as a list, and the search that goes along it.
+
+#![tactic(auto)]
+
+pub mod verdicts;
+
+pub use verdicts::{Verdict, Worked};
