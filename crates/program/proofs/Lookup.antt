@@ -2,12 +2,13 @@
 use Rattle.std.proofs.Common.{◌≡◌, ℕ, zero, suc, ◌+◌, ◌-◌, ◌<◌, ◌≤◌, true, false, cond, ◌&&◌, ◌||◌, eqb, ltb, leb, List, [], ◌∷◌, ◌++◌, length, get_or, Some, None, sym, refl, ap, ◌∙◌, subst, inl, inr, arith}
 use Rattle.std.proofs.lemmas.List.{get_or-append-add}
 use Rattle.std.proofs.lemmas.List.Sums.{sum_by-cons, count_by-le-length}
-use Rattle.std.proofs.lemmas.Bool.{cases_order, cases_Bool, and_parts, both_ways}
+use Rattle.std.proofs.lemmas.Bool.{cases_order, cases_Bool, and_from, and_parts, both_ways, le-leb}
 use Rattle.std.proofs.lemmas.Bool.Decides.{nat_tests}
 use Rattle.program.specs.declared.rows.Row.{Row}
 use Rattle.program.specs.declared.rows.Counts.{Counts}
 use Rattle.program.specs.declared.rows.Instruction.{Instruction}
-use Rattle.program.specs.Program.{Program, operands_fit, is_term, rows_fit, ends_fit, labels_of, rows_below, instruction_at, proper}
+use Rattle.program.specs.Program.{Program, within, operands_fit, is_term, rows_fit, ends_fit, labels_of, rows_below, instruction_at, proper}
+use Rattle.program.specs.Tables.{Fits}
 use Rattle.program.specs.Source.{numbered, listed}
 use Rattle.program.proofs.Tallied.{length_numbered, labels_own, labels_later, labels_rest, below_later, labels_lower, below_own}
 use Rattle.program.proofs.Follows.{next}
@@ -103,28 +104,55 @@ followed processes (r ∷ (s ∷ rows)) ends =
     (λ t. grind (arith, nat_tests), followed processes (s ∷ rows) end.1)
 
 -- a row that is found among those below process p and label l
-fits_below : (c : Counts) (L : ℕ → ℕ) (q m : ℕ) (x : Instruction) (rows : List Row) (p l : ℕ) → rows_fit c L p l rows ≡ true → Followed rows → instruction_at rows q m ≡ Some x → (operands_fit c (L q) x ≡ true) × (is_term x ≡ false → m < cond (eqb q p) l 0 + labels_of rows q)
-fits_below c L q m x [] p l fit more e = let z : ◌≡◌ {A = ℕ} 0 1 = cc in absurd (omega arith)
-fits_below c L q m x (r ∷ rows) p l fit more e =
+record Found (c : Counts) (L : ℕ → ℕ) (q m : ℕ) (x : Instruction) (high : ℕ) : Type 0 where
+  process : within 1 c.processes q ≡ true
+  label : within 1 32 m ≡ true
+  operands : operands_fit c (L q) x ≡ true
+  next : is_term x ≡ false → m < high
+
+found_below : (c : Counts) (L : ℕ → ℕ) (q m : ℕ) (x : Instruction) (rows : List Row) (p l : ℕ)
+    → rows_fit c L p l rows ≡ true → Followed rows → instruction_at rows q m ≡ Some x
+    → Found c L q m x (cond (eqb q p) l 0 + labels_of rows q)
+found_below c L q m x [] p l fit more e = let z : ◌≡◌ {A = ℕ} 0 1 = cc in absurd (omega arith)
+found_below c L q m x (r ∷ rows) p l fit more e =
     let n = next c L p l r rows fit in
     let count = sum_by-cons (λ (t : Row). cond (eqb t.process q) 1 0) r rows in
     elim (cases_Bool (eqb r.process q && eqb r.label m)) [
       | inl b ↦
           let process : r.process ≡ q = grind (arith, nat_tests) in
           let label : r.label ≡ m = grind (arith, nat_tests) in
-          let same : r.instruction ≡ x = cc in (
-            subst (λ (y : Instruction). operands_fit c (L q) y ≡ true) same (subst (λ (a : ℕ). operands_fit c (L a) r.instruction ≡ true) process n.operands),
-            λ t.
+          let same : r.instruction ≡ x = cc in
+          let place = n.place in
+          let low : 1 ≤ q = omega (arith, place) in
+          let first : 1 ≤ m = omega (arith, place) in
+          let high : q ≤ c.processes = omega (arith, n.high) in
+          let last : m ≤ 32 = omega (arith, n.few) in
+          record {
+            process = and_from (leb 1 q) (leb q c.processes) (le-leb 1 q low) (le-leb q c.processes high);
+            label = and_from (leb 1 m) (leb m 32) (le-leb 1 m first) (le-leb m 32 last);
+            operands = subst (λ (y : Instruction). operands_fit c (L q) y ≡ true) same (subst (λ (a : ℕ). operands_fit c (L a) r.instruction ≡ true) process n.operands);
+            next = λ t.
                 let another : 1 ≤ labels_of rows q = subst (λ (a : ℕ). 1 ≤ labels_of rows a) process (more.0 (ap is_term same ∙ t)) in
-                grind (arith, nat_tests),
-          )
+                grind (arith, nat_tests);
+          }
       | inr b ↦
-          let rest = fits_below c L q m x rows r.process r.label n.below more.1 (cc) in
-          (rest.0, λ t. let high = rest.1 t in grind (arith, nat_tests))
+          let rest = found_below c L q m x rows r.process r.label n.below more.1 (cc) in
+          record {
+            process = rest.process;
+            label = rest.label;
+            operands = rest.operands;
+            next = λ t. let high = rest.next t in grind (arith, nat_tests);
+          }
     ]
 
-pub found_fits : (p : Program) (q l : ℕ) (x : Instruction) → proper p ≡ true → instruction_at p.rows q l ≡ Some x → (operands_fit p.counts (labels_of p.rows q) x ≡ true) × (is_term x ≡ false → l < labels_of p.rows q)
+pub found_fits : (p : Program) (q l : ℕ) (x : Instruction) → proper p ≡ true → instruction_at p.rows q l ≡ Some x → Fits p q l x
 found_fits p q l x h e =
     let t = tested p h in
-    let fits = fits_below p.counts (labels_of p.rows) q l x p.rows 0 0 t.rows_fit_in (followed p.counts.processes p.rows t.ends_fit_in) e in
-    (fits.0, λ u. let high = fits.1 u in grind (arith, nat_tests))
+    let found = found_below p.counts (labels_of p.rows) q l x p.rows 0 0 t.rows_fit_in (followed p.counts.processes p.rows t.ends_fit_in) e in
+    record {
+      counts = t.counts;
+      process = found.process;
+      label = found.label;
+      operands = found.operands;
+      next = λ u. let high = found.next u in grind (arith, nat_tests);
+    }

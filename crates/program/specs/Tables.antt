@@ -5,7 +5,7 @@ use Rattle.program.specs.declared.refusals.Refusal.{Refusal}
 use Rattle.program.specs.declared.refusals.Short.{Short}
 use Rattle.program.specs.declared.rows.Instruction.{Instruction}
 use Rattle.program.specs.declared.tables.Table.{Table}
-use Rattle.program.specs.Program.{Program, is_nothing, is_term, labels_of, lines_text, operands_fit, table_fields}
+use Rattle.program.specs.Program.{Program, counts_fit, is_nothing, is_term, labels_of, lines_text, operands_fit, table_fields, within}
 
 -- what a table says
 abbrev pub program : Table → Program
@@ -28,7 +28,15 @@ abbrev pub table_written : Program → List ℕ → Result ℕ Short × List ℕ
 table_written p out =
     cond (nat_le (length (text_of p)) (length out)) (Ok (length (text_of p)), over (text_of p) out) (Err (record { needed = length (text_of p) }), out)
 
--- an instruction that stands at a label has its operands in range, and if it is not TERM a next label follows
+-- What is kept of an instruction x that stands at label l of process q: the header is in its limits, the process is one
+-- of its processes, the operands are in range, and if it is not TERM a next label follows.
+pub record Fits (p : Program) (q l : ℕ) (x : Instruction) : Type 0 where
+  pub counts : counts_fit p.counts ≡ true
+  pub process : within 1 p.counts.processes q ≡ true
+  pub label : within 1 32 l ≡ true
+  pub operands : operands_fit p.counts (labels_of p.rows q) x ≡ true
+  pub next : is_term x ≡ false → l < labels_of p.rows q
+
 abbrev pub FitsAt : Program → ℕ → ℕ → Option Instruction → Type 0
-FitsAt p q l (Some x) = (operands_fit p.counts (labels_of p.rows q) x ≡ true) × (is_term x ≡ false → l < labels_of p.rows q)
+FitsAt p q l (Some x) = Fits p q l x
 FitsAt p q l None = Unit {0}

@@ -31,6 +31,8 @@ pub struct Short {
 pub enum Part {
     Text,
     Table,
+    Run,
+    Question,
 }
 
 // A refusal as it is told: its number, its place, 0 where no line is meant, and the part that found it. The numbers

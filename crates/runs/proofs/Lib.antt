@@ -1,0 +1,5 @@
+pub mod Tree
+pub mod Walks
+pub mod Sights
+pub mod Firsts
+pub mod Looks
