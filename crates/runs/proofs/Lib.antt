@@ -1,3 +1,10 @@
+pub mod Befores
+pub mod Spans
+pub mod Uniques
+pub mod Members
+pub mod Powers
+pub mod Counts
+pub mod TheLists
 pub mod Tree
 pub mod Walks
 pub mod Sights

@@ -14,17 +14,17 @@ upto_all f i j h = let e : j - i ≡ 0 = omega arith in ap (span f i) e
 module _ {W : Type 0} (S : System W) where
   -- the runs from d on are d's path and those below it
   pub list_is : (d : Node W) → list S d ≡ d.path ∷ below S d
-  list_is d = go d.left d.room d.world d.path
+  list_is d = go d.left
     where
-      go : (n k : ℕ) (w : W) (path : List Move) → list S (record { left = n; room = k; world = w; path = path }) ≡ path ∷ below S (record { left = n; room = k; world = w; path = path })
-      go zero k w path = refl
-      go (suc n) k w path = refl
+      go : (n : ℕ) → list S (record d { left = n }) ≡ d.path ∷ below S (record d { left = n })
+      go zero = refl
+      go (suc n) = refl
 
   -- none are below where no moves are left
   pub below_none : (d : Node W) → d.left ≡ 0 → below S d ≡ []
   below_none d e = go d.left e
     where
-      go : (n : ℕ) → n ≡ 0 → below S (record { left = n; room = d.room; world = d.world; path = d.path }) ≡ []
+      go : (n : ℕ) → n ≡ 0 → below S (record d { left = n }) ≡ []
       go zero e = refl
       go (suc n) e = absurd (omega arith)
 
@@ -32,10 +32,11 @@ module _ {W : Type 0} (S : System W) where
   pub below_some : (d : Node W) → 0 < d.left → below S d ≡ processes S d 1
   below_some d e = go d.left e
     where
-      go : (n : ℕ) → 0 < n → below S (record { left = n; room = d.room; world = d.world; path = d.path }) ≡ processes S (record { left = n; room = d.room; world = d.world; path = d.path }) 1
+      go : (n : ℕ) → 0 < n → below S (record d { left = n }) ≡ processes S (record d { left = n }) 1
       go zero e = absurd (omega arith)
       go (suc n) e = refl
 
+  -- one more move leads to a child
   pub at_push : (d : Node W) (s : List Move) (m : Move) → at S d (s ++ (m ∷ [])) ≡ child S (at S d s) m
   at_push d [] m = refl
   at_push d (x ∷ s) m = at_push (child S d x) s m
@@ -63,6 +64,7 @@ module _ {W : Type 0} (S : System W) where
       let r = left_at (child S d x) s in
       omega arith
 
+  -- the world and the room there are those after the moves
   pub world_at : (d : Node W) (s : List Move) → (at S d s).world ≡ end_of S d.world s
   world_at d [] = refl
   world_at d (x ∷ s) = world_at (child S d x) s
@@ -71,7 +73,8 @@ module _ {W : Type 0} (S : System W) where
   room_at d [] = omega arith
   room_at d (x ∷ s) = let r = room_at (child S d x) s in omega arith
 
-  pub offered_push : (d : Node W) (s : List Move) (m : Move) → Offered S d s → m.choice < S.offer (at S d s).world m.process → Offered S d (s ++ (m ∷ []))
+  pub offered_push : (d : Node W) (s : List Move) (m : Move)
+      → Offered S d s → m.choice < S.offer (at S d s).world m.process → Offered S d (s ++ (m ∷ []))
   offered_push d [] m o h = (h, tt)
   offered_push d (x ∷ s) m o h = (o.0, offered_push (child S d x) s m o.1 h)
 

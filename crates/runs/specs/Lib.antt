@@ -3,3 +3,5 @@ pub mod Listed
 pub mod Look
 pub mod First
 pub mod Walk
+pub mod Insides
+pub mod Asked

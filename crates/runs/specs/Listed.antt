@@ -1,5 +1,5 @@
 -- The runs within bounds and their order, in a reader's words, and what is claimed of a list of them.
-use Rattle.std.specs.Prelude.{◌≡◌, ℕ, zero, suc, ◌+◌, ◌*◌, ◌^◌, ◌<◌, ◌≤◌, ◌⊎◌, ◌↔◌, List, [], ◌∷◌, ◌++◌, length}
+use Rattle.std.specs.Prelude.{◌≡◌, ℕ, zero, suc, ◌+◌, ◌^◌, ◌<◌, ◌≤◌, ◌⊎◌, ◌↔◌, List, [], ◌∷◌, ◌++◌, length}
 use Rattle.ceiling.specs.declared.moves.Move.{Move}
 use Rattle.runs.specs.Runs.{System, IsRun, switches_of, runs}
 

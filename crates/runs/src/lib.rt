@@ -2,6 +2,8 @@
 
 #![tactic(auto)]
 
+pub mod questions;
 pub mod verdicts;
 
+pub use questions::{Question, Unasked};
 pub use verdicts::{Verdict, Worked};

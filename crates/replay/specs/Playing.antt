@@ -1,0 +1,85 @@
+-- Playing a written run: for every byte string the one outcome.
+use Rattle.std.specs.Prelude.{ℕ, ◌+◌, ◌-◌, ◌/◌, ◌%◌, Bool, false, cond, ◌&&◌, List, [], ◌∷◌, length, Some, None, Ok, Err, Option, Result, ◌==◌, nat_le, nat_lt, slice_index}
+use Rattle.std.specs.Option.{ok_or}
+use Rattle.std.specs.Simd.{first_chunks}
+use Rattle.text.specs.Lines.{line_numbers}
+use Rattle.memory.specs.declared.actions.Action.{Action}
+use Rattle.memory.specs.Machine.{Machine}
+use Rattle.ceiling.specs.declared.moves.Move.{Move}
+use Rattle.ceiling.specs.Programs.{World, deed, offers, next, opening}
+use Rattle.program.specs.Program.{Program}
+use Rattle.program.specs.Reading.{cons_to, then_do}
+use Rattle.worlds.specs.declared.places.Place.{Place}
+use Rattle.worlds.specs.declared.records.Record.{Record}
+use Rattle.worlds.specs.Worlds.{over, label_in, record_of}
+use Rattle.runs.specs.declared.questions.Question.{Question}
+use Rattle.runs.specs.Asked.{arrived}
+use Rattle.replay.specs.declared.faults.Fault.{Fault}
+use Rattle.replay.specs.declared.faults.Fault.TheVariants.{Length, Field, Number, Process, NoMove, Choice, Seen, Bounds, Targets}
+use Rattle.replay.specs.declared.faults.Played.{Played}
+
+-- 1 for a switch, else 0
+abbrev pub mark_number : Bool → ℕ
+mark_number b = cond b 1 0
+
+-- the six numbers of the line of step i
+abbrev pub record_fields : ℕ → Record → List ℕ
+record_fields i r = i ∷ (r.process ∷ (r.label ∷ (r.choice ∷ (r.value ∷ (mark_number r.switch ∷ [])))))
+
+-- the move that a line's numbers name
+abbrev pub move_of : List ℕ → Move
+move_of f = record { process = slice_index f 1; choice = slice_index f 3 }
+
+-- the numbers of each line, from line i on
+abbrev pub numbers : ℕ → List (List ℕ) → Result (List (List ℕ)) Fault
+numbers i [] = Ok []
+numbers i (b ∷ bs) = cons_to (ok_or (line_numbers 6 b) (Field i)) (numbers (i + 1) bs)
+
+-- how many lines a text has: at most 24
+abbrev pub line_count : List ℕ → Result ℕ Fault
+line_count text = cond (length text % 25 == 0 && nat_le (length text / 25) 24) (Ok (length text / 25)) (Err Length)
+
+abbrev pub lines_read : List ℕ → Result (List (List ℕ)) Fault
+lines_read text = then_do (line_count text) (λ n. numbers 1 (first_chunks 25 n text))
+
+-- there is such a label, and it is this one
+abbrev pub is_label : Option ℕ → ℕ → Bool
+is_label (Some l) n = l == n
+is_label None n = false
+
+-- a choice that is not offered: where there is no move, or else by the memory
+abbrev pub unoffered : ℕ → Option Action → ℕ → Fault
+unoffered i (Some a) offered = Choice i (record { offered = offered })
+unoffered i None offered = NoMove i
+
+module _ {Config : Type 0} (m : Machine Config) (t : Program) (q : Question) where
+  -- What is wrong with the numbers f of line i, if the run so far led to the world w with s switches: the first in this order.
+  abbrev pub line_fault : World Config Place → ℕ → ℕ → List ℕ → Option Fault
+  line_fault w i s f =
+      let step = record_of m t w (move_of f) in
+      cond (slice_index f 0 == i)
+      (cond (is_label (label_in t w.places (slice_index f 1)) (slice_index f 2))
+      (cond (nat_lt (slice_index f 3) (offers m (over t) w (slice_index f 1)))
+      (cond (slice_index f 4 == step.value && slice_index f 5 == mark_number step.switch)
+      (cond (nat_le i q.steps && nat_le (s + mark_number step.switch) q.switches) None (Some (Bounds i)))
+      (Some (Seen i)))
+      (Some (unoffered i (deed m (over t) w (slice_index f 1)) (offers m (over t) w (slice_index f 1)))))
+      (Some (Process i)))
+      (Some (Number i))
+
+  -- what comes after line i: the rest of the run, if nothing is wrong with the line
+  abbrev pub unless : Option Fault → Result Played Fault → Result Played Fault
+  unless (Some fault) rest = Err fault
+  unless None rest = rest
+
+  -- the lines from line i on
+  abbrev pub lines_played : World Config Place → ℕ → ℕ → List (List ℕ) → Result Played Fault
+  lines_played w i s [] = cond (arrived q w) (Ok (record { steps = i - 1; switches = s })) (Err (Targets (i - 1)))
+  lines_played w i s (f ∷ fs) = elim (line_fault w i s f) [
+    | Some fault ↦ Err fault
+    | None ↦ lines_played (next m (over t) w (move_of f)) (i + 1) (s + mark_number (record_of m t w (move_of f)).switch) fs
+  ]
+
+  -- The one outcome of a text: its length, the fields of all its lines, then line by line, and at the end the targets.
+  abbrev pub played : List ℕ → Result Played Fault
+  played text = then_do (lines_read text) (lines_played (opening m (over t) q.shape) 1 0)

@@ -1,0 +1,7 @@
+// Plays a written run: reads its lines, makes its moves, and accepts it or tells what is wrong with it.
+
+#![tactic(auto)]
+
+pub mod faults;
+
+pub use faults::{Fault, Played};
