@@ -5,3 +5,5 @@ pub mod First
 pub mod Walk
 pub mod Insides
 pub mod Asked
+pub mod Paths
+pub mod Cursors

@@ -2,8 +2,15 @@
 
 #![tactic(auto)]
 
+mod asking;
+pub mod cursors;
+mod moving;
+pub mod paths;
 pub mod questions;
 pub mod verdicts;
+mod walking;
 
+pub use cursors::Cursor;
+pub use paths::Run;
 pub use questions::{Question, Unasked};
 pub use verdicts::{Verdict, Worked};

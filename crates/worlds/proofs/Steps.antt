@@ -1,17 +1,19 @@
 -- A move that the code makes is the step of the program over the memory.
-use Rattle.std.proofs.Common.{◌≡◌, ℕ, ◌<◌, List, length, set, Some, Option, sym, ap, ◌∙◌, subst, inl, inr, get_or-set_same, get_or-set_other, arith}
+use Rattle.std.proofs.Common.{◌≡◌, ℕ, ◌<◌, ◌≤◌, Err, List, length, set, Some, Option, sym, ap, ◌∙◌, subst, inl, inr, get_or-set_same, get_or-set_other, arith}
 use mathlib.Core.Path.{fun_ext}
 use Rattle.std.proofs.lemmas.Bool.{cases_eq, eq-eqb, ne_eqb}
 use Rattle.memory.specs.declared.actions.Action.{Action}
 use Rattle.memory.specs.declared.actions.Seen.{Seen}
 use Rattle.memory.specs.Machine.{Machine, Accepted}
 use Rattle.ceiling.specs.declared.moves.Move.{Move}
-use Rattle.ceiling.specs.Programs.{World, deed, offer_of, made, led, step_of}
+use Rattle.ceiling.specs.Programs.{World, offers, deed, offer_of, made, led, step_of}
 use Rattle.program.specs.Program as table
 use Rattle.worlds.specs.declared.places.Place.{Place}
+use Rattle.worlds.specs.declared.records.Unmade.{Unmade}
+use Rattle.worlds.specs.declared.records.Unmade.TheVariants.{NoMove, Refused}
 use Rattle.worlds.specs.declared.standing.Standing.{Standing}
 use Rattle.worlds.specs.Places.{beginning, action_of, moved, shown}
-use Rattle.worlds.specs.Worlds.{instruction_in, action_by, moved_by, shown_by, over, places_of, At, Went}
+use Rattle.worlds.specs.Worlds.{instruction_in, action_by, moved_by, shown_by, over, places_of, At, Made, Went}
 
 -- writing a place is where a process is led
 led_to : (t : table.Program) (places : List Place) (p v : ℕ) (s : Standing) → p < length places → At t (places_of places) p s
@@ -67,3 +69,9 @@ module _ {Config : Type 0} (m : Machine Config) (t : table.Program) (c : Config)
           switch = (taken.mark ∙ sym (ap (λ z. z.mark) step)) i;
         };
       }
+
+-- a choice that is refused is not below the offer
+pub refused : {Config : Type 0} (m : Machine Config) (t : table.Program) (w : World Config Place) (k : Move) (v : World Config Place)
+    (why : Unmade) → Made m t w k v (Err why) → offers m (over t) w k.process ≤ k.choice
+refused m t w k v NoMove h = let e : offers m (over t) w k.process ≡ 0 = ap (offer_of m (over t) w.config k.process) h.none in omega arith
+refused m t w k v (Refused f) h = h.beyond

@@ -1,0 +1,23 @@
+use Rattle.std.proofs.Common.{rules, ◌≡◌, ◌+◌, ◌<◌, ◌≤◌, [], ◌∷◌, ◌++◌, length, ℕ, ◌-◌, ◌*◌, ◌/◌, ◌%◌, Bool, true, false, nat_eq, nat_lt, List, slice_index_or, slice_set, bit_and, bit_or, Fits, w8, w32, w64, Bor, MutBor}
+use Rattle.ceiling.specs.Programs.{event}
+use Rattle.ceiling.specs.Programs.{next as successor}
+use Rattle.ceiling.specs.Programs.{offers}
+use Rattle.program.specs.Tables.{program}
+use Rattle.worlds.specs.Worlds.{over}
+use Rattle.worlds.specs.Worlds.{world as stand}
+use Rattle.runs.specs.Cursors.{Goes, GoesOn, IsPath, Regained, Sound, StandsAt, WentBack}
+use Rattle.runs.specs.Paths.{path}
+use Rattle.runs.specs.Runs.{below, branch, choices, onward, processes}
+use Rattle.runs.proofs.cursors.Cursor.choose.Goals as goal
+
+-- src/walking.rt:82:16
+pub enter-requires-clause-offered : goal.enter-requires-clause-offered
+enter-requires-clause-offered g c = ?
+
+-- src/walking.rt:81:9
+pub loop-choice-preserved : goal.loop-choice-preserved
+loop-choice-preserved g c = ?
+
+-- src/walking.rt:75:5
+pub returns-clause-goes : goal.returns-clause-goes
+returns-clause-goes g c = ?
