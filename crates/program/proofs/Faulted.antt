@@ -10,14 +10,14 @@ use Rattle.program.specs.declared.refusals.Refusal.TheVariants.{Length, Field, H
 use Rattle.program.specs.Faults.{Lines, Faulty}
 use Rattle.program.specs.Program.{Six, lines_text, within}
 use Rattle.program.specs.Reading.{line_count, lines, numbers, header_read, header_fits, counts_of}
-use Rattle.program.proofs.Lines.{line_is}
+use Rattle.program.proofs.Lines.{line_is, count_back}
 use Rattle.program.proofs.Outcomes.{cons_err, or_ok, or_err, cond_err, not_both}
-use Rattle.program.proofs.Texts.{line_count_back, header_back}
+use Rattle.program.proofs.Texts.{header_back}
 
 -- no allowed number of lines is that long
 pub no_lines : (text : List ℕ) (f : Refusal) → line_count text ≡ Err f → Faulty text f
 no_lines text f e = elim (cond_err (eqb (length text % 25) 0 && within 2 129 (length text / 25)) (Ok (length text / 25)) Length f e) [
-  | inl t ↦ subst (Faulty text) t.1 (λ n h. not_both f n (sym e ∙ line_count_back text n h.0 h.1 h.2))
+  | inl t ↦ subst (Faulty text) t.1 (λ n h. not_both f n (sym e ∙ count_back 2 129 Length text n h.0 h.1 h.2))
   | inr t ↦ not_both f (length text / 25) (sym t.1)
 ]
 

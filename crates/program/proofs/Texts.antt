@@ -1,20 +1,19 @@
 -- A text that is read is the table's, which is proper; a proper table's text is read as that table.
-use Rattle.std.proofs.Common.{◌≡◌, ℕ, ◌*◌, ◌/◌, ◌%◌, ◌≤◌, Bool, true, cond, ◌&&◌, eqb, leb, List, [], ◌∷◌, map, length, get_or, Ok, Err, Result, sym, refl, ap, ◌∙◌, subst, ap₂, arith}
+use Rattle.std.proofs.Common.{◌≡◌, ℕ, ◌≤◌, Bool, true, cond, eqb, leb, List, [], ◌∷◌, map, length, get_or, Ok, Err, Result, sym, refl, ap, ◌∙◌, subst, ap₂, arith}
 use mathlib.Core.Path.{fun_ext}
 use Rattle.std.proofs.lemmas.List.{length-map}
 use Rattle.std.proofs.lemmas.List.Sums.{count_by-le-length}
 use Rattle.std.proofs.lemmas.Bool.{and_parts, and_from, eqb-true, eq-eqb, leb-true, le-leb}
 use Rattle.std.specs.List.{AllByRecursion}
 use Rattle.program.specs.declared.refusals.Refusal.{Refusal}
-use Rattle.program.specs.declared.refusals.Refusal.TheVariants.{Length, Header}
+use Rattle.program.specs.declared.refusals.Refusal.TheVariants.{Length, Field, Header}
 use Rattle.program.specs.declared.rows.Row.{Row}
 use Rattle.program.specs.declared.rows.Counts.{Counts}
-use Rattle.program.specs.Faults.{Lines}
 use Rattle.program.specs.Program.{Program, header_fields, row_fields, table_fields, table_text, lines_text, within, counts_fit, labels_of, rows_fit, ends_fit, proper, Six}
-use Rattle.program.specs.Reading.{then_do, line_count, lines, numbers, lines_read, counts_of, header_fits, header_read, named, rows_read, ends_read, body_read, table_read, read}
+use Rattle.program.specs.Reading.{then_do, lines_read, counts_of, header_fits, header_read, named, rows_read, ends_read, body_read, table_read, read}
 use Rattle.program.proofs.Blocks.{tested}
 use Rattle.program.proofs.Judged.{named_rows}
-use Rattle.program.proofs.Lines.{numbers_are, numbers_back, length_lines}
+use Rattle.program.proofs.Lines.{lines_are, lines_back}
 use Rattle.program.proofs.Outcomes.{then_ok, cond_ok, not_both}
 use Rattle.program.proofs.Smalls.{rows_small, header_small}
 use Rattle.program.proofs.RowTexts.{six_are, rows_are, rows_back, ends_are, ends_back}
@@ -38,15 +37,6 @@ header_is h n c six e =
     let fit : counts_fit (counts_of h) ≡ true = and_from _ _ a.0 (and_from _ _ b.0 (and_from _ _ d.0 f.0)) in
     let whole : h ≡ header_fields (counts_of h) n = six_are h six ∙ ap₂ (λ (x y : ℕ). get_or h 0 0 ∷ (get_or h 1 0 ∷ (get_or h 2 0 ∷ (get_or h 3 0 ∷ (x ∷ (y ∷ [])))))) en ez in
     subst (λ (z : Counts). (counts_fit z ≡ true) × (1 ≤ n) × (n ≤ 128) × (h ≡ header_fields z n)) same (fit, low, high, whole)
-
-pub line_count_is : (text : List ℕ) (n : ℕ) → line_count text ≡ Ok n → Lines text n
-line_count_is text n e =
-    let t = cond_ok (eqb (length text % 25) 0 && within 2 129 (length text / 25)) (Ok (length text / 25)) Length n e in
-    let u = and_parts (eqb (length text % 25) 0) (within 2 129 (length text / 25)) t.0 in
-    let v = and_parts (leb 2 (length text / 25)) (leb (length text / 25) 129) u.1 in
-    let whole = eqb-true (length text % 25) 0 u.0 in
-    let same : length text / 25 ≡ n = let k = t.1 in cc in
-    (omega arith, omega (arith, leb-true 2 (length text / 25) v.0), omega (arith, leb-true (length text / 25) 129 v.1))
 
 -- the numbers of all lines
 table_is : (fs : List (List ℕ)) (p : Program) → AllByRecursion Six fs → table_read fs ≡ Ok p → (proper p ≡ true) × (fs ≡ table_fields p)
@@ -73,8 +63,7 @@ table_is (h ∷ fs) p six e =
 pub read_is : (text : List ℕ) (p : Program) → read text ≡ Ok p → (proper p ≡ true) × (text ≡ table_text p)
 read_is text p e =
     let a = then_ok (lines_read text) table_read p e in
-    let b = then_ok (line_count text) (λ n. numbers 1 (lines n text)) a.0 a.1 in
-    let c = numbers_are b.0 1 text a.0 (line_count_is text b.0 b.1).0 b.2 in
+    let c = lines_are 2 129 Length Field text a.0 a.1 in
     let d = table_is a.0 p c.0 a.2 in
     (d.0, c.1 ∙ ap lines_text d.1)
 
@@ -87,13 +76,6 @@ header_back c n fit low high =
     let rows : within 1 128 n ≡ true = and_from (leb 1 n) (leb n 128) (le-leb 1 n low) (le-leb n 128 high) in
     let good : header_fits (header_fields c n) n ≡ true = and_from _ _ a.0 (and_from _ _ b.0 (and_from _ _ d.0 (and_from _ _ d.1 (and_from _ _ rows (and_from (eqb n n) true (eq-eqb n n refl) refl))))) in
     ap (λ (t : Bool). cond t (Ok (counts_of (header_fields c n))) (Err Header)) good
-
-pub line_count_back : (text : List ℕ) (n : ℕ) → length text ≡ 25 * n → 2 ≤ n → n ≤ 129 → line_count text ≡ Ok n
-line_count_back text n e low high =
-    let whole : length text % 25 ≡ 0 = omega arith in
-    let same : length text / 25 ≡ n = omega arith in
-    let good : (eqb (length text % 25) 0 && within 2 129 (length text / 25)) ≡ true = and_from _ _ (eq-eqb (length text % 25) 0 whole) (and_from _ _ (le-leb 2 (length text / 25) (omega arith)) (le-leb (length text / 25) 129 (omega arith))) in
-    ap (λ (t : Bool). cond t (Ok (length text / 25)) (Err Length)) good ∙ ap Ok same
 
 ends_some : (P : ℕ) (rows : List Row) → ends_fit P rows ≡ true → 1 ≤ length rows
 ends_some P [] e = let z : ◌≡◌ {A = ℕ} 0 1 = cc in let y : ⊥ = omega arith in elim y [ ]
@@ -115,13 +97,12 @@ read_back p e =
     let some = ends_some c.processes rows t.ends_fit_in in
     let long : length fs ≡ length rows = length-map rows row_fields in
     let six = fields_six p e in
-    let count = line_count_back (table_text p) (length (table_fields p)) (length_lines (table_fields p) six) (omega arith) (omega (arith, t.short)) in
+    let numbers = lines_back 2 129 Length Field (table_fields p) six (omega arith) (omega (arith, t.short)) in
     let judged = rows_back c (labels_of rows) 0 0 2 rows t.rows_fit_in in
     let labels : named fs ≡ labels_of rows = fun_ext (named_rows c (labels_of rows) 0 0 2 fs rows judged) in
     let body : rows_read c (named fs) 0 0 2 fs ≡ Ok rows = ap (λ (L : ℕ → ℕ). rows_read c L 0 0 2 fs) labels ∙ judged in
     let head : header_read (header_fields c (length rows)) (length fs) ≡ Ok c = ap (λ (n : ℕ). header_read (header_fields c (length rows)) n) long ∙ header_back c (length rows) t.counts some t.short in
-    ap (λ (r : Result ℕ Refusal). then_do (then_do r (λ n. numbers 1 (lines n (table_text p)))) table_read) count
-    ∙ ap (λ (r : Result (List (List ℕ)) Refusal). then_do r table_read) (numbers_back (table_fields p) 1 six)
+    ap (λ (r : Result (List (List ℕ)) Refusal). then_do r table_read) numbers
     ∙ ap (λ (r : Result Counts Refusal). then_do r (λ k. body_read k fs)) head
     ∙ ap (λ (r : Result (List Row) Refusal). then_do r (λ rs. then_do (ends_read c.processes 2 rs) (λ _. Ok (record { counts = c; rows = rs })))) body
     ∙ ap (λ (r : Result (Unit {0}) Refusal). then_do r (λ _. Ok p)) (ends_back c.processes 2 rows t.ends_fit_in)

@@ -1,6 +1,7 @@
 -- A text is accepted exactly when it is that of a program with all the properties.
 use Rattle.std.proofs.Common.{◌≡◌, ℕ, ◌≤◌, List, [], ◌∷◌, length, Ok, Err, Result, sym, refl, ap, ◌∙◌, subst, inl, inr, arith}
 use Rattle.program.specs.declared.refusals.Refusal.{Refusal}
+use Rattle.program.specs.declared.refusals.Refusal.TheVariants.{Length, Field}
 use Rattle.std.specs.List.{AllByRecursion}
 use Rattle.program.specs.Faults.{Faulty, Headed, Judged}
 use Rattle.program.specs.Program.{Program, Six, lines_text, proper, rows_fit}
@@ -10,10 +11,10 @@ use Rattle.program.specs.Tables.{taken_in}
 use Rattle.program.proofs.Blocks.{blocks, proper_source}
 use Rattle.program.proofs.Faulted.{no_lines, no_numbers, no_header}
 use Rattle.program.proofs.FaultedRows.{no_row, no_end}
-use Rattle.program.proofs.Lines.{numbers_are}
-use Rattle.program.proofs.Outcomes.{not_both, then_err, then_ok}
+use Rattle.program.proofs.Lines.{count_is, lines_are}
+use Rattle.program.proofs.Outcomes.{not_both, then_err}
 use Rattle.program.proofs.RowTexts.{rows_are}
-use Rattle.program.proofs.Texts.{header_is, line_count_is, read_is, read_back}
+use Rattle.program.proofs.Texts.{header_is, read_is, read_back}
 
 -- a proper program's text is read as that program
 is_read : (text : List ℕ) (q : Program) → TextOf q text → read text ≡ Ok q
@@ -53,13 +54,11 @@ faults : (text : List ℕ) (f : Refusal) → read text ≡ Err f → Faulty text
 faults text f e = elim (then_err (lines_read text) table_read f e) [
   | inl t ↦ elim (then_err (line_count text) (λ n. numbers 1 (lines n text)) f t) [
     | inl u ↦ no_lines text f u
-    | inr u ↦ no_numbers text u.0 f (line_count_is text u.0 u.1) u.2
+    | inr u ↦ no_numbers text u.0 f (count_is 2 129 Length text u.0 u.1) u.2
   ]
   | inr t ↦
-      let b = then_ok (line_count text) (λ n. numbers 1 (lines n text)) t.0 t.1 in
-      let long = line_count_is text b.0 b.1 in
-      let c = numbers_are b.0 1 text t.0 long.0 b.2 in
-      refused_table text t.0 f c.0 c.1 (omega (arith, c.2, long.1)) (omega (arith, c.2, long.2)) t.2
+      let c = lines_are 2 129 Length Field text t.0 t.1 in
+      refused_table text t.0 f c.0 c.1 c.2 c.3 t.2
 ]
 
 by_outcome : (text : List ℕ) (old : Program) (o : Result Program Refusal) → read text ≡ o → SaysOf text (taken_in old o).0 (taken_in old o).1

@@ -21,22 +21,32 @@ abbrev pub then_do : {A B E : Type 0} → Result A E → (A → Result B E) → 
 then_do (Ok a) f = f a
 then_do (Err e) f = Err e
 
--- how many lines a text has: from 2 to 129
-abbrev pub line_count : List ℕ → Result ℕ Refusal
-line_count text = cond (length text % 25 == 0 && within 2 129 (length text / 25)) (Ok (length text / 25)) (Err Length)
+-- how many lines a text has, from low to high; any other text gives e
+abbrev pub count_or : {E : Type 0} → ℕ → ℕ → E → List ℕ → Result ℕ E
+count_or low high e text = cond (length text % 25 == 0 && within low high (length text / 25)) (Ok (length text / 25)) (Err e)
 
 -- the first k lines
 abbrev pub lines : ℕ → List ℕ → List (List ℕ)
 lines k bytes = first_chunks 25 k bytes
 
--- the six numbers of each line, from line i on
-abbrev pub numbers : ℕ → List (List ℕ) → Result (List (List ℕ)) Refusal
-numbers i [] = Ok []
-numbers i (b ∷ bs) = cons_to (ok_or (line_numbers 6 b) (Field i)) (numbers (i + 1) bs)
+-- the six numbers of each line, from line i on, or what the first line without such numbers gives
+abbrev pub numbers_or : {E : Type 0} → (ℕ → E) → ℕ → List (List ℕ) → Result (List (List ℕ)) E
+numbers_or wrong i [] = Ok []
+numbers_or wrong i (b ∷ bs) = cons_to (ok_or (line_numbers 6 b) (wrong i)) (numbers_or wrong (i + 1) bs)
 
--- the numbers of all lines of a text
+-- the numbers of all lines of a text that has from low to high of them
+abbrev pub lines_or : {E : Type 0} → ℕ → ℕ → E → (ℕ → E) → List ℕ → Result (List (List ℕ)) E
+lines_or low high e wrong text = then_do (count_or low high e text) (λ n. numbers_or wrong 1 (lines n text))
+
+-- the same for a table, which has from 2 to 129 lines
+abbrev pub line_count : List ℕ → Result ℕ Refusal
+line_count = count_or 2 129 Length
+
+abbrev pub numbers : ℕ → List (List ℕ) → Result (List (List ℕ)) Refusal
+numbers = numbers_or Field
+
 abbrev pub lines_read : List ℕ → Result (List (List ℕ)) Refusal
-lines_read text = then_do (line_count text) (λ n. numbers 1 (lines n text))
+lines_read = lines_or 2 129 Length Field
 
 abbrev pub counts_of : List ℕ → Counts
 counts_of h = record { processes = slice_index h 0; variables = slice_index h 1; registers = slice_index h 2; values = slice_index h 3 }

@@ -1,0 +1,3 @@
+pub mod Rights
+pub mod Plays
+pub mod Says

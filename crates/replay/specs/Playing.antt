@@ -1,14 +1,11 @@
 -- Playing a written run: for every byte string the one outcome.
-use Rattle.std.specs.Prelude.{ℕ, ◌+◌, ◌-◌, ◌/◌, ◌%◌, Bool, false, cond, ◌&&◌, List, [], ◌∷◌, length, Some, None, Ok, Err, Option, Result, ◌==◌, nat_le, nat_lt, slice_index}
-use Rattle.std.specs.Option.{ok_or}
-use Rattle.std.specs.Simd.{first_chunks}
-use Rattle.text.specs.Lines.{line_numbers}
+use Rattle.std.specs.Prelude.{ℕ, ◌+◌, ◌-◌, Bool, false, cond, ◌&&◌, List, [], ◌∷◌, Some, None, Ok, Err, Option, Result, ◌==◌, nat_le, nat_lt, slice_index}
 use Rattle.memory.specs.declared.actions.Action.{Action}
 use Rattle.memory.specs.Machine.{Machine}
 use Rattle.ceiling.specs.declared.moves.Move.{Move}
 use Rattle.ceiling.specs.Programs.{World, deed, offers, next, opening}
 use Rattle.program.specs.Program.{Program}
-use Rattle.program.specs.Reading.{cons_to, then_do}
+use Rattle.program.specs.Reading.{then_do, count_or, numbers_or, lines_or}
 use Rattle.worlds.specs.declared.places.Place.{Place}
 use Rattle.worlds.specs.declared.records.Record.{Record}
 use Rattle.worlds.specs.Worlds.{over, label_in, record_of}
@@ -30,17 +27,16 @@ record_fields i r = i ∷ (r.process ∷ (r.label ∷ (r.choice ∷ (r.value ∷
 abbrev pub move_of : List ℕ → Move
 move_of f = record { process = slice_index f 1; choice = slice_index f 3 }
 
--- the numbers of each line, from line i on
-abbrev pub numbers : ℕ → List (List ℕ) → Result (List (List ℕ)) Fault
-numbers i [] = Ok []
-numbers i (b ∷ bs) = cons_to (ok_or (line_numbers 6 b) (Field i)) (numbers (i + 1) bs)
-
 -- how many lines a text has: at most 24
 abbrev pub line_count : List ℕ → Result ℕ Fault
-line_count text = cond (length text % 25 == 0 && nat_le (length text / 25) 24) (Ok (length text / 25)) (Err Length)
+line_count = count_or 0 24 Length
+
+-- the numbers of each line, from line i on
+abbrev pub numbers : ℕ → List (List ℕ) → Result (List (List ℕ)) Fault
+numbers = numbers_or Field
 
 abbrev pub lines_read : List ℕ → Result (List (List ℕ)) Fault
-lines_read text = then_do (line_count text) (λ n. numbers 1 (first_chunks 25 n text))
+lines_read = lines_or 0 24 Length Field
 
 -- there is such a label, and it is this one
 abbrev pub is_label : Option ℕ → ℕ → Bool
