@@ -1,19 +1,30 @@
-use Rattle.std.proofs.Common.{rules, ◌≡◌, ◌+◌, ◌<◌, ◌≤◌, [], ◌∷◌, ◌++◌, length, ℕ, ◌-◌, ◌*◌, ◌/◌, ◌%◌, Bool, true, false, nat_eq, nat_lt, List, slice_index_or, slice_set, bit_and, bit_or, Fits, w8, w32, w64, Bor, MutBor}
-use Rattle.ceiling.specs.Programs.{event}
-use Rattle.ceiling.specs.Programs.{next as successor}
-use Rattle.ceiling.specs.Programs.{offers}
+use Rattle.std.proofs.Common.{◌≡◌, ◌∷◌, ◌++◌, [], ◌∙◌, ap, sym, arith}
+use Rattle.ceiling.specs.declared.moves.Move.{Move}
 use Rattle.program.specs.Tables.{program}
-use Rattle.worlds.specs.Worlds.{over}
 use Rattle.worlds.specs.Worlds.{world as stand}
-use Rattle.runs.specs.Cursors.{Goes, GoesOn, IsPath, Regained, Sound, StandsAt, WentBack}
+use Rattle.std.proofs.Common.{List}
+use Rattle.runs.specs.Asked.{system, root}
 use Rattle.runs.specs.Paths.{path}
-use Rattle.runs.specs.Runs.{below, branch, choices, onward, processes}
+use Rattle.runs.proofs.Walks.{back_offered, back_may, longer}
 use Rattle.runs.proofs.cursors.Cursor.back.Goals as goal
 
--- src/walking.rt:131:9
 pub again-requires : goal.again-requires
-again-requires g c = ?
+again-requires g c =
+    let m = g.M.Memory.machine in
+    let t = program c.args.table.now in
+    back_offered (system m t) (root m t c.args.question) (path c.pop.new.self) (path c.args.self.now.run) c.in_ok-last.last c.requires.sound.here.offered c.in_ok-last.ensures.some
 
--- src/walking.rt:126:5
 pub returns : goal.returns
-returns g c = ?
+returns g c =
+    let m = g.M.Memory.machine in
+    let t = program c.args.table.now in
+    let old = path c.args.self.now.run in
+    let new = c.again.new.self in
+    let last = c.in_ok-last.last in
+    let was : old ≡ path new.run ++ (last ∷ []) = c.in_ok-last.ensures.some ∙ ap (λ r. path r ++ (last ∷ [])) (sym c.again.ensures.run) in
+    let long = longer old (path new.run) last was in
+    record {
+      sound = record { within = omega arith; here = c.again.ensures.here };
+      was = was;
+      offered = back_may (system m t) (root m t c.args.question) (stand g.M.Memory.config new.world) new.room (path new.run) old last c.requires.sound.here.offered was c.again.ensures.here;
+    }

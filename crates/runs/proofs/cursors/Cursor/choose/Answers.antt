@@ -1,23 +1,37 @@
-use Rattle.std.proofs.Common.{rules, ◌≡◌, ◌+◌, ◌<◌, ◌≤◌, [], ◌∷◌, ◌++◌, length, ℕ, ◌-◌, ◌*◌, ◌/◌, ◌%◌, Bool, true, false, nat_eq, nat_lt, List, slice_index_or, slice_set, bit_and, bit_or, Fits, w8, w32, w64, Bor, MutBor}
-use Rattle.ceiling.specs.Programs.{event}
-use Rattle.ceiling.specs.Programs.{next as successor}
-use Rattle.ceiling.specs.Programs.{offers}
+use Rattle.std.proofs.Common.{sym, ◌∙◌, arith}
 use Rattle.program.specs.Tables.{program}
-use Rattle.worlds.specs.Worlds.{over}
 use Rattle.worlds.specs.Worlds.{world as stand}
-use Rattle.runs.specs.Cursors.{Goes, GoesOn, IsPath, Regained, Sound, StandsAt, WentBack}
+use Rattle.runs.specs.Asked.{system, root}
 use Rattle.runs.specs.Paths.{path}
-use Rattle.runs.specs.Runs.{below, branch, choices, onward, processes}
+use Rattle.runs.proofs.Walks.{same_offer, choose_again, choose_none}
 use Rattle.runs.proofs.cursors.Cursor.choose.Goals as goal
 
--- src/walking.rt:82:16
 pub enter-requires-clause-offered : goal.enter-requires-clause-offered
-enter-requires-clause-offered g c = ?
+enter-requires-clause-offered g c =
+    let m = g.M.Memory.machine in
+    let t = program c.args.table.now in
+    let old = c.args.self.now in
+    let here = c.loop-choice.self in
+    let same = same_offer (system m t) (root m t c.args.question) (stand g.M.Memory.config old.world) (stand g.M.Memory.config here.world) old.room here.room (path old.run) (path here.run) c.args.process c.requires.sound.here c.loop-choice.invariant.sound.here (sym c.loop-choice.invariant.stays) in
+    omega (arith, same)
 
--- src/walking.rt:81:9
 pub loop-choice-preserved : goal.loop-choice-preserved
-loop-choice-preserved g c = ?
+loop-choice-preserved g c =
+    let m = g.M.Memory.machine in
+    let t = program c.args.table.now in
+    let old = c.args.self.now in
+    let i = c.loop-choice.invariant in
+    let goes = c.if-enter.ensures.goes in
+    record {
+      sound = c.if-enter.ensures.sound;
+      stays = goes.1 ∙ i.stays;
+      skipped = choose_again (system m t) (root m t c.args.question) (stand g.M.Memory.config old.world) old.room (path old.run) (path c.loop-choice.self.run) c.args.process c.args.from c.loop-choice.choice c.requires.sound.here i.stays i.skipped (omega arith) goes.0;
+    }
 
--- src/walking.rt:75:5
 pub returns-clause-goes : goal.returns-clause-goes
-returns-clause-goes g c = ?
+returns-clause-goes g c =
+    let m = g.M.Memory.machine in
+    let t = program c.args.table.now in
+    let old = c.args.self.now in
+    let i = c.loop-choice.invariant in
+    (choose_none (system m t) (root m t c.args.question) (stand g.M.Memory.config old.world) old.room (path old.run) c.args.process c.args.from c.loop-choice.choice c.requires.sound.here i.skipped (omega arith), i.stays)
