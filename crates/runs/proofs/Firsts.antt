@@ -1,5 +1,5 @@
 -- What `look` answers, in a reader's words: the first run that reaches the targets, or that none does.
-use Rattle.std.proofs.Common.{◌≡◌, ℕ, zero, suc, ◌<◌, ◌≤◌, ◌⊎◌, Bool, true, List, [], ◌∷◌, length, refl, sym, ap, ◌∙◌, subst, inl, inr, arith}
+use Rattle.std.proofs.Common.{◌≡◌, ℕ, zero, suc, ◌<◌, ◌⊎◌, Bool, true, List, [], ◌∷◌, length, refl, sym, ap, ◌∙◌, subst, inl, inr, arith}
 use Rattle.std.proofs.lemmas.Bool.{both_ways, cases_order}
 use Rattle.ceiling.specs.declared.moves.Move.{Move}
 use Rattle.runs.specs.declared.verdicts.Verdict.{Verdict}
@@ -144,19 +144,21 @@ module _ (total : TotalOrder) {W : Type 0} (S : System W) (w : W) (n k : ℕ) (h
     found_first E u M None v' u' x h a f = let e = (says_seen E u M None v' u' x h a).0 in cc
     found_first E u M More v' u' x h a f = let e = (says_seen E u M More v' u' x h a).0 in cc
 
-    -- with effort for the whole list
-    pub decides : (E : ℕ) (v : Verdict) (u : ℕ) (x : List Move)
-        → Says S w n k hit L E v u x → length L ≤ E → Decided S w n k hit v x
-    decides E v u x a h =
-        let l = look test E L in
-        record {
-          found = λ r. (
-            λ f. subst (First S w n k hit) f.1 (found_first E l.units l.left l.verdict v u x (seen test E L) a f.0),
-            λ f.
-                let q = (lists.exactly r).1 f.within in
-                let b = stands_in L q.0 r q.1 in
-                let y = (a.run q.0 r).1 (f, q.1, omega arith) in
-                (y.0, y.2),
-          );
-          none = (λ e. (a.none.0 e).0, λ no. a.none.1 (no, h));
+    -- once settled, the answer is a matter of the runs alone
+    pub settles : (E : ℕ) (v : Verdict) (u : ℕ) (x : List Move)
+        → Says S w n k hit L E v u x → (v ≡ More → ⊥) → Decided S w n k hit v x
+    settles E v u x a closed = go v refl
+      where
+        first : v ≡ Found → First S w n k hit x
+        first e = let l = look test E L in found_first E l.units l.left l.verdict v u x (seen test E L) a e
+
+        go : (verdict : Verdict) → v ≡ verdict → Decided S w n k hit v x
+        go Found e = record {
+          found = λ r. (λ f. subst (First S w n k hit) f.1 (first e), λ f. (e, first_one x r (first e) f));
+          none = (λ f. cc, λ no. absurd (no x (first e).within (first e).reaches));
         }
+        go None e = record {
+          found = λ r. (λ f. cc, λ f. absurd ((a.none.0 e).0 r f.within f.reaches));
+          none = (λ f. (a.none.0 e).0, λ no. e);
+        }
+        go More e = absurd (closed e)

@@ -10,3 +10,4 @@ pub mod Walks
 pub mod Sights
 pub mod Firsts
 pub mod Looks
+pub mod Works

@@ -7,3 +7,4 @@ pub mod Insides
 pub mod Asked
 pub mod Paths
 pub mod Cursors
+pub mod Searches

@@ -16,7 +16,7 @@ module _ {W : Type 0} (S : System W) (d : Node W) where
   Outcome path now whole none true = whole ++ after S d path ≡ now ∷ rest S d now
   Outcome path now whole none false = (none ≡ []) × (now ≡ path)
 
-  -- one run further: the next of the list, or that there is none
+  -- one run further: the next of the list, or that there is none, and then back at the first
   abbrev pub Next : List Move → List Move → Bool → Type 0
   Next path now true = rest S d path ≡ now ∷ rest S d now
-  Next path now false = rest S d path ≡ []
+  Next path now false = (rest S d path ≡ []) × (now ≡ [])

@@ -1,16 +1,17 @@
-ghost use Rattle.std.specs.Prelude.{◌≡◌, cond, Ok, Err, IfOk, nat_le};
+ghost use Rattle.std.specs.Prelude.{◌≡◌, ◌||◌, true, cond, Ok, Err, IfOk, ◌==◌, nat_le};
 ghost use Rattle.ceiling.specs.Ceiling.{LosesNothing};
-ghost use Rattle.program.specs.Program.{labels_of};
+ghost use Rattle.program.specs.Program.{labels_of, within};
 ghost use Rattle.program.specs.Reading.{then_do};
 ghost use Rattle.program.specs.Tables.{program};
-ghost use Rattle.worlds.specs.Worlds.{over};
+ghost use Rattle.worlds.specs.Worlds.{over, world as stand};
 ghost use Rattle.runs.specs.declared.questions.Unasked.TheVariants as unasked;
-ghost use Rattle.runs.specs.Asked.{judged, Asks};
+ghost use Rattle.runs.specs.Asked.{arrived, judged, Asks};
 
 use super::questions::{Question, Unasked};
 use ceiling::shape_for;
+use memory::Memory;
 use program::Table;
-use worlds::Place;
+use worlds::{Place, World};
 
 // A bound that is at most 24; behind the test the cast keeps it.
 fn bound(n: u16) -> Result<u8, Unasked>
@@ -34,10 +35,23 @@ fn aim(table: &Table, process: u8, target: u16) -> Result<u8, Unasked>
     }
 }
 
+// Whether a process has no target, or stands at it.
+fn is_met<M: Memory>(world: &World<M>, process: u8, target: u8) -> bool
+    requires { within 1 4 process ≡ true }
+    ensures { result ≡ (target == 0 || ((stand M.config world.now).places process).label == target) }
+{
+    target == 0 || world.stands_at(process, target)
+}
+
 impl Question {
     // The question for runs of at most so many steps and switches to these targets, one for each process from 1 on;
     // or the first reason why it cannot be asked.
-    pub fn new(table: &Table, steps: u16, switches: u16, targets: [u16; 4]) -> Result<Question, Unasked>
+    pub fn new(
+        table: &Table,
+        steps: u16,
+        switches: u16,
+        targets: [u16; 4],
+    ) -> Result<Question, Unasked>
         ensures outcome { then_do result (λ q. Ok tt) ≡ judged (program table.now) steps switches targets }
         ensures asks { IfOk result (λ q. Asks (program table.now) steps switches targets q) }
         ensures enough { IfOk result (λ q. LosesNothing q.shape (over (program table.now)) q.steps) }
@@ -64,5 +78,16 @@ impl Question {
             }),
             None => unreachable(),
         }
+    }
+
+    // Whether each process with a target stands at it.
+    pub fn is_reached<M: Memory>(&self, world: &World<M>) -> bool
+        ensures { result ≡ arrived self.now (stand M.config world.now) }
+    {
+        let [one, two, three, four] = self.targets;
+        is_met(world, 1, one)
+            && is_met(world, 2, two)
+            && is_met(world, 3, three)
+            && is_met(world, 4, four)
     }
 }

@@ -7,10 +7,13 @@ pub mod cursors;
 mod moving;
 pub mod paths;
 pub mod questions;
+pub mod searches;
+mod searching;
 pub mod verdicts;
 mod walking;
 
 pub use cursors::Cursor;
 pub use paths::Run;
 pub use questions::{Question, Unasked};
+pub use searches::Search;
 pub use verdicts::{Verdict, Worked};

@@ -26,7 +26,12 @@ fn step<M: Memory>(world: &mut World<M>, table: &Table, last: Move) -> bool
 }
 
 // Starts again and makes the moves; answers the switches that are left, or None where one of them is not offered.
-pub(crate) fn regain<M: Memory>(world: &mut World<M>, table: &Table, question: Question, moves: &[Move]) -> Option<u8>
+pub(crate) fn regain<M: Memory>(
+    world: &mut World<M>,
+    table: &Table,
+    question: Question,
+    moves: &[Move],
+) -> Option<u8>
     ensures { Regained M.machine (program table.now) question (stand M.config world.new) moves.now result }
 {
     world.start(question.shape);

@@ -1,6 +1,7 @@
-ghost use Rattle.std.specs.Prelude.{◌≡◌, Some};
+ghost use Rattle.std.specs.Prelude.{◌≡◌, ◌&&◌, Some, ◌==◌};
 ghost use Rattle.ceiling.specs.Programs.{offers, opening};
 ghost use Rattle.program.specs.Program as table;
+ghost use Rattle.program.specs.Program.{within};
 ghost use Rattle.program.specs.Tables.{program};
 ghost use Rattle.worlds.specs.Places.{beginning};
 ghost use Rattle.worlds.specs.Worlds.{label_in, over, places_of, world, Made, StandsAs};
@@ -69,6 +70,13 @@ impl<M: Memory> World<M> {
         (1..=table.counts().processes)
             .contains(&process)
             .then_some(place.label)
+    }
+
+    // Whether a process stands at a label; no table has other processes than 1 to 4.
+    pub fn stands_at(&self, process: u8, label: u8) -> bool
+        ensures { result ≡ (within 1 4 process && ((world M.config self.now).places process).label == label) }
+    {
+        (1..=4).contains(&process) && self.places[usize::from(process)].label == label
     }
 
     // How many choices a process has where it stands.

@@ -1,4 +1,3 @@
-use Rattle.std.proofs.Common.{◌∙◌}
 use Rattle.program.specs.Tables.{program}
 use Rattle.runs.specs.Asked.{system, root}
 use Rattle.runs.specs.Paths.{path}

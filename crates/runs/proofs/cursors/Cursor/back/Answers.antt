@@ -1,8 +1,6 @@
 use Rattle.std.proofs.Common.{◌≡◌, ◌∷◌, ◌++◌, [], ◌∙◌, ap, sym, arith}
-use Rattle.ceiling.specs.declared.moves.Move.{Move}
 use Rattle.program.specs.Tables.{program}
 use Rattle.worlds.specs.Worlds.{world as stand}
-use Rattle.std.proofs.Common.{List}
 use Rattle.runs.specs.Asked.{system, root}
 use Rattle.runs.specs.Paths.{path}
 use Rattle.runs.proofs.Walks.{back_offered, back_may, longer}

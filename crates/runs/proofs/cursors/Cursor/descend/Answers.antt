@@ -26,4 +26,4 @@ returns-else-moves-from-clause-goes g c =
     let long = ap length c.moves.ensures in
     let full : q.steps ≤ length (path run) = omega (arith, long) in
     subst (λ (b : Bool). Goes m t q (λ S x. below S x) (λ S x. below S x) run run b)
-      (sym (le-ltb (length c.moves.result.now) c.from.result c.if-moves-from.false)) (descend_none (system m t) (root m t q) (path run) full, refl)
+    (sym (le-ltb (length c.moves.result.now) c.from.result c.if-moves-from.false)) (descend_none (system m t) (root m t q) (path run) full, refl)

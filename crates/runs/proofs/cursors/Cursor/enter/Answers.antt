@@ -1,4 +1,4 @@
-use Rattle.std.proofs.Common.{◌≡◌, ◌+◌, ◌-◌, ◌≤◌, cond, ◌∷◌, ◌++◌, [], length, List, subst, refl, sym, rules, arith}
+use Rattle.std.proofs.Common.{◌≡◌, ◌-◌, ◌≤◌, cond, ◌∷◌, ◌++◌, [], length, List, subst, refl, sym, rules, arith}
 use Rattle.std.proofs.lemmas.List.{length_push}
 use Rattle.ceiling.specs.declared.moves.Move.{Move}
 use Rattle.program.specs.Tables.{program}

@@ -3,7 +3,7 @@ use Rattle.program.specs.declared.rows.Counts.{Counts}
 use Rattle.program.specs.Tables.{program}
 use Rattle.runs.specs.Asked.{system, root}
 use Rattle.runs.specs.Paths.{path}
-use Rattle.runs.proofs.Walks.{sweep_found, sweep_again, sweep_none}
+use Rattle.runs.proofs.Walks.{sweep_found, sweep_again}
 use Rattle.runs.proofs.cursors.Cursor.sweep.Goals as goal
 
 pub returns-then-choose-clause-goes : goal.returns-then-choose-clause-goes
