@@ -6,6 +6,7 @@
 pub mod actions;
 mod driving;
 pub mod fences;
+pub mod kinds;
 mod limits;
 pub mod memories;
 mod messages;
@@ -19,6 +20,7 @@ mod views;
 pub use actions::{Action, NotOffered, Seen, Take};
 pub use driving::drive;
 pub use fences::Fences;
+pub use kinds::Kind;
 pub use memories::Memory;
 pub use release_acquire::ReleaseAcquire;
 pub use sequential::Sequential;

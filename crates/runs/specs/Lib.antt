@@ -8,3 +8,4 @@ pub mod Asked
 pub mod Paths
 pub mod Cursors
 pub mod Searches
+pub mod Lines

@@ -4,6 +4,7 @@
 
 mod asking;
 pub mod cursors;
+pub mod lines;
 mod moving;
 pub mod paths;
 pub mod questions;
@@ -13,6 +14,7 @@ pub mod verdicts;
 mod walking;
 
 pub use cursors::Cursor;
+pub use lines::{Wish, read_question};
 pub use paths::Run;
 pub use questions::{Question, Unasked};
 pub use searches::Search;

@@ -6,8 +6,8 @@ use Rattle.memory.specs.Fences.{fenced}
 use Rattle.memory.specs.Sequential as sequential
 use Rattle.memory.specs.ReleaseAcquire as release_acquire
 use Rattle.steps.specs.declared.outcomes.Tally.{Tally}
-use Rattle.steps.specs.declared.settings.Kind.{Kind}
-use Rattle.steps.specs.declared.settings.Kind.TheVariants.{Sequential, ReleaseAcquire}
+use Rattle.memory.specs.declared.kinds.Kind.{Kind}
+use Rattle.memory.specs.declared.kinds.Kind.TheVariants.{Sequential, ReleaseAcquire}
 use Rattle.steps.specs.declared.settings.Setting.{Setting}
 use Rattle.steps.specs.declared.settings.Failing.{Failing}
 use Rattle.steps.specs.Asking.{take_of}

@@ -4,8 +4,8 @@ use Rattle.std.specs.Option.{ok_or}
 use Rattle.std.specs.Str.{bytes_eq}
 use Rattle.memory.specs.declared.shapes.Shape.{Shape}
 use Rattle.memory.specs.Shapes.{shape_by}
-use Rattle.steps.specs.declared.settings.Kind.{Kind}
-use Rattle.steps.specs.declared.settings.Kind.TheVariants.{Sequential, ReleaseAcquire}
+use Rattle.memory.specs.declared.kinds.Kind.{Kind}
+use Rattle.memory.specs.declared.kinds.Kind.TheVariants.{Sequential, ReleaseAcquire}
 use Rattle.steps.specs.declared.settings.Setting.{Setting}
 use Rattle.steps.specs.declared.settings.Failing.{Failing}
 use Rattle.steps.specs.declared.settings.Failing.TheVariants.{NoMemory, NoShape, At}

@@ -9,8 +9,8 @@ ghost use Rattle.steps.specs.Reading.{left_of};
 use super::lines::Lines;
 use super::outcomes::Tally;
 use super::performing::perform;
-use super::settings::{Kind, read_setting};
-use memory::{Fences, Memory, ReleaseAcquire, Sequential};
+use super::settings::read_setting;
+use memory::{Fences, Kind, Memory, ReleaseAcquire, Sequential};
 use std::alloc::{AllocError, Global};
 
 // Performs the lines over a memory with fences.

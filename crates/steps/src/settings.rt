@@ -8,13 +8,7 @@ ghost use Rattle.steps.specs.Settings.{kind_of, shape_of, setting_of};
 use super::lines::Lines;
 use super::numbers::byte_after;
 use super::wrongs::Wrong;
-use memory::Shape;
-
-#[derive(Clone, Copy)]
-pub enum Kind {
-    Sequential,
-    ReleaseAcquire,
-}
+use memory::{Kind, Shape};
 
 #[derive(Clone, Copy)]
 pub struct Setting {
