@@ -1,4 +1,4 @@
-use Rattle.std.proofs.Common.{◌≡◌, ℕ, List, length, Some, None, Option, ap, sym, ◌∙◌, rules, arith}
+use Rattle.std.proofs.Common.{◌≡◌, ℕ, List, length, Some, None, Option, ap, ◌∙◌, arith}
 use Rattle.std.proofs.lemmas.Bool.{eq-eqb}
 use Rattle.text.specs.Lines.{line_numbers}
 use Rattle.runs.specs.Lines.{filled, wish_by, wish_of}
@@ -12,7 +12,7 @@ pub returns-in_err-read_line : goal.returns-in_err-read_line
 returns-in_err-read_line c =
     let long : length c.args.line.now ≡ 29 = omega arith in
     let read : None ≡ line_numbers 7 (filled c.args.line.now) = c.in_err-read_line.ensures.value ∙ ap (line_numbers 7) (c.filled.ensures ∙ ap filled c.copy_from_slice.ensures.after) in
-    c.from_residual-in_err-read_line.ensures ∙ wishes c.args.line.now None long read
+    c.from_residual.ensures ∙ wishes c.args.line.now None long read
 
 pub returns : goal.returns
 returns c =
