@@ -9,9 +9,8 @@ ghost use Rattle.ceiling.specs.Ceiling.{Enough};
 
 mod moves;
 
-pub use moves::Move;
-
 use memory::Shape;
+pub use moves::Move;
 
 // The shape for runs of at most so many steps, whose ceiling loses none of them; or None where a number is
 // outside its limits. Place is where a process of a program may stand.
