@@ -9,3 +9,5 @@ pub mod Paths
 pub mod Cursors
 pub mod Searches
 pub mod Lines
+pub mod Notices
+pub mod Words

@@ -6,6 +6,7 @@ mod asking;
 pub mod cursors;
 pub mod lines;
 mod moving;
+mod notices;
 pub mod paths;
 pub mod questions;
 pub mod searches;

@@ -72,17 +72,14 @@ impl<M: Memory> Cursor<M> {
         ensures passed { Passed M.machine (program table.now) question (path self.old.run) effort result (path self.new.run) }
     {
         for looked in 0..effort {
+            let units = looked + 1;
             if question.is_reached(&self.world) {
-                return Worked {
-                    units: looked + 1,
-                    verdict: Verdict::Found,
-                };
+                let verdict = Verdict::Found;
+                return Worked { units, verdict };
             }
             if !self.advance(table, question) {
-                return Worked {
-                    units: looked + 1,
-                    verdict: Verdict::None,
-                };
+                let verdict = Verdict::None;
+                return Worked { units, verdict };
             }
         }
         Worked {
