@@ -21,7 +21,7 @@ module _ {Config : Type 0} (m : Machine Config) where
       let e = taken_one s j.process j.action j.choice h.0 k.0 h.1.0 k.1.0 h.1.1 k.1.1 in
       leads_one k.0 ks t u (subst (λ w. Leads m w ks t) e h.2) k.2
 
-  leads_more : (s : Config) (ks : List Take) (t : Config) (k : Take) (u : Config) (r : Result Seen NotOffered)
+  pub leads_more : (s : Config) (ks : List Take) (t : Config) (k : Take) (u : Config) (r : Result Seen NotOffered)
       → Leads m s ks t → Taken m t k.process k.action k.choice u r → Leads m s (ks ++ (k ∷ [])) u
   leads_more s [] t k u r h took = (u, (r, subst (λ w. Taken m w k.process k.action k.choice u r) h took), refl)
   leads_more s (j ∷ ks) t k u r h took = (h.0, h.1, leads_more h.0 ks t k u r h.2 took)

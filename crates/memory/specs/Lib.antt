@@ -17,3 +17,4 @@ pub mod Ruled
 pub mod Admits
 pub mod Timely
 pub mod Sequenced
+pub mod Bytes

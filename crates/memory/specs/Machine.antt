@@ -50,3 +50,16 @@ Silent (Read x) = ⊥
 Silent (Write x v) = Unit {0}
 Silent (Swap x old new) = ⊥
 Silent Fence = ⊥
+
+-- the values that the action names are 0 to 255
+abbrev pub InBytes : Action → Type 0
+InBytes Local = Unit {0}
+InBytes (Read x) = Unit {0}
+InBytes (Write x v) = v ≤ 255
+InBytes (Swap x old new) = (old ≤ 255) × (new ≤ 255)
+InBytes Fence = Unit {0}
+
+-- and so in each of the takes
+abbrev pub AllInBytes : List Take → Type 0
+AllInBytes [] = Unit {0}
+AllInBytes (k ∷ ks) = InBytes k.action × AllInBytes ks

@@ -1,6 +1,7 @@
 ghost use Rattle.std.specs.Prelude.{◌≡◌};
 ghost use Rattle.memory.specs.Fences.{fenced, lowered};
 ghost use Rattle.memory.specs.Fenced.{inside_lowered, leads_below, lowered_takes};
+ghost use Rattle.memory.specs.Bytes;
 ghost use Rattle.std.proofs.Common.{rules};
 
 use super::actions::{Action, NotOffered, Seen};
@@ -51,6 +52,8 @@ impl<M: Memory> Memory for Fences<M> {
         (λ i. out (inside_lowered shape p a i)) };
 
     ghost quiet = { Prim.search rules };
+
+    ghost bytes = { Bytes.fences M.Memory.machine M.Memory.bytes };
 
     fn start(&mut self, shape: Shape) {
         self.below.start(shape);

@@ -1,5 +1,5 @@
 ghost use Rattle.std.specs.Prelude.{◌≡◌, ℕ, ◌≤◌, List};
-ghost use Rattle.memory.specs.Machine.{Machine, Taken, Leads, Silent};
+ghost use Rattle.memory.specs.Machine.{Machine, Taken, Leads, Silent, InBytes, AllInBytes};
 ghost use Rattle.memory.specs.Shapes.{Inside};
 ghost use Rattle.memory.specs.declared.actions.Action.{Action};
 ghost use Rattle.memory.specs.declared.actions.Take.{Take};
@@ -49,4 +49,8 @@ pub trait Memory {
 
     // A Local or Write step sees 0.
     ghost quiet: { (s : Config) (p : ℕ) (a : Action) (c : ℕ) → Silent a → (machine.step s p a c).value ≡ 0 };
+
+    // A step of an action whose values are 0 to 255 sees 0 to 255, wherever takes of such actions have led from the
+    // start of a shape.
+    ghost bytes: { (shape : Shape) (ks : List Take) (s : Config) → Leads machine (machine.initial shape) ks s → AllInBytes ks → (p : ℕ) (a : Action) (c : ℕ) → InBytes a → (machine.step s p a c).value ≤ 255 };
 }

@@ -4,6 +4,7 @@ ghost use Rattle.memory.specs.ReleaseAcquire.{Config, initial, admitted, choices
 ghost use Rattle.memory.specs.Choices.{Offers, Takes, AlwaysTimely};
 ghost use Rattle.memory.specs.MessageTable.{view_of, config, turned, posted, Sought};
 ghost use Rattle.memory.specs.Words;
+ghost use Rattle.memory.specs.Bytes;
 ghost use Rattle.std.proofs.Common.{rules};
 
 use super::actions::{Action, NotOffered, Seen};
@@ -160,6 +161,8 @@ impl Memory for ReleaseAcquire {
     ghost outside = { Words.outside };
 
     ghost quiet = { Prim.search rules };
+
+    ghost bytes = { Bytes.release_acquire };
 
     // Written in each memory: the trait can't have it, since a layer has no `new`.
     fn start(&mut self, shape: Shape) {

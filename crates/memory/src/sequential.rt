@@ -4,6 +4,7 @@ ghost use Rattle.memory.specs.Sequential.{Config, initial, allowed, offer, writt
 ghost use Rattle.memory.specs.SequentialState.{values_of, config};
 ghost use Rattle.memory.specs.SequentialWords.{Offers, Takes};
 ghost use Rattle.memory.specs.Sequenced;
+ghost use Rattle.memory.specs.Bytes;
 ghost use Rattle.std.proofs.Common.{rules};
 
 use super::actions::{Action, NotOffered, Seen};
@@ -89,6 +90,8 @@ impl Memory for Sequential {
     ghost outside = { Sequenced.outside };
 
     ghost quiet = { Prim.search rules };
+
+    ghost bytes = { Bytes.sequential };
 
     // Written in each memory: the trait can't have it, since a layer has no `new`.
     fn start(&mut self, shape: Shape) {
