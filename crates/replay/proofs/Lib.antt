@@ -1,3 +1,5 @@
 pub mod Rights
 pub mod Plays
+pub mod Registers
+pub mod Fits
 pub mod Says

@@ -1,7 +1,5 @@
 -- The written form of a run, and what playing a text says of it, in a reader's words.
 use Rattle.std.specs.Prelude.{◌≡◌, ℕ, ◌+◌, true, List, [], ◌∷◌, length, Ok, Err, Result}
-use Rattle.std.specs.List.{AllByRecursion}
-use Rattle.text.specs.Lines.{Small}
 use Rattle.memory.specs.Machine.{Machine}
 use Rattle.ceiling.specs.declared.moves.Move.{Move}
 use Rattle.ceiling.specs.Programs.{World, next, opening}
@@ -28,10 +26,9 @@ module _ {Config : Type 0} (m : Machine Config) (t : Program) where
       pub within : Within (system m t) (opening m (over t) q.shape) q.steps q.switches r
       pub reaches : arrived q (end_of (system m t) (opening m (over t) q.shape) r) ≡ true
 
-    -- the bytes are the lines of the run, and every number of them fits its field
-    pub record IsWritten (r : List Move) (text : List ℕ) : Type 0 where
-      pub fits : AllByRecursion Small (run_fields (opening m (over t) q.shape) 1 r)
-      pub bytes : text ≡ lines_text (run_fields (opening m (over t) q.shape) 1 r)
+    -- the bytes are the lines of the run
+    abbrev pub IsWritten : List Move → List ℕ → Type 0
+    IsWritten r text = text ≡ lines_text (run_fields (opening m (over t) q.shape) 1 r)
 
     -- A text is accepted as a run's: the run answers the question, the text is its written form and that of no other.
     pub record AcceptedAs (text : List ℕ) (p : Played) (r : List Move) : Type 0 where
