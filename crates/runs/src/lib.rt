@@ -14,6 +14,7 @@ mod searching;
 pub mod verdicts;
 mod walking;
 
+pub use ceiling::Move;
 pub use cursors::Cursor;
 pub use lines::{Wish, read_question};
 pub use paths::Run;
