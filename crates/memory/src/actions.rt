@@ -27,7 +27,7 @@ pub struct Seen {
 }
 
 // The choice is not below the offer, which is this.
-#[derive(Clone, Copy)]
+#[derive(Clone, Copy, Debug)]
 pub struct NotOffered {
     pub offered: usize,
 }

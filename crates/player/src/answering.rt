@@ -46,7 +46,11 @@ fn tell(
 {
     let mut told = String::new(heap);
     let (lines, _) = run.as_chunks::<LINE>();
-    tell_steps(&mut told, table, &lines[..lines_before(outcome).min(lines.len())])?;
+    tell_steps(
+        &mut told,
+        table,
+        &lines[..lines_before(outcome).min(lines.len())],
+    )?;
     let ending = Ending(outcome);
     write!(told, "{ending}")?;
     Ok(told)
@@ -94,7 +98,9 @@ pub(crate) fn answer(heap: Global, input: &[u8]) -> Result<String, AllocError>
 {
     let parts = cut(input);
     let Some(wish) = read_question(parts.question) else {
-        return format!(in heap; "refused (72): the question line has a wrong field, end or memory\n");
+        return format!(in heap;
+            "refused (72): the question line has a wrong field, end or memory\n"
+        );
     };
     let mut table = Table::empty(heap)?;
     match table.read(parts.table) {

@@ -2,6 +2,7 @@ pub mod Fronts
 pub mod Follows
 pub mod Tallies
 pub mod Judged
+pub mod Kept
 pub mod Instructions
 pub mod Outcomes
 pub mod Lines

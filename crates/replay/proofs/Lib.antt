@@ -3,3 +3,4 @@ pub mod Plays
 pub mod Registers
 pub mod Fits
 pub mod Says
+pub mod Turns

@@ -1,2 +1,5 @@
 pub mod Playing
 pub mod Written
+pub mod Notices
+pub mod Words
+pub mod Turns

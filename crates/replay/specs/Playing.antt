@@ -8,6 +8,8 @@ use Rattle.program.specs.Program.{Program}
 use Rattle.program.specs.Reading.{then_do, count_or, numbers_or, lines_or}
 use Rattle.worlds.specs.declared.places.Place.{Place}
 use Rattle.worlds.specs.declared.records.Record.{Record}
+use Rattle.worlds.specs.declared.records.Unmade.{Unmade}
+use Rattle.worlds.specs.declared.records.Unmade.TheVariants as why
 use Rattle.worlds.specs.Worlds.{over, label_in, record_of}
 use Rattle.runs.specs.declared.questions.Question.{Question}
 use Rattle.runs.specs.Asked.{arrived}
@@ -48,6 +50,11 @@ abbrev pub unoffered : ℕ → Option Action → ℕ → Fault
 unoffered i (Some a) offered = Choice i (record { offered = offered })
 unoffered i None offered = NoMove i
 
+-- a move that is not made, as a world tells it
+abbrev pub unmade : ℕ → Unmade → Fault
+unmade i why.NoMove = NoMove i
+unmade i (why.Refused refused) = Choice i refused
+
 module _ {Config : Type 0} (m : Machine Config) (t : Program) (q : Question) where
   -- What is wrong with the numbers f of line i, if the run so far led to the world w with s switches: the first in this order.
   abbrev pub line_fault : World Config Place → ℕ → ℕ → List ℕ → Option Fault
@@ -62,11 +69,6 @@ module _ {Config : Type 0} (m : Machine Config) (t : Program) (q : Question) whe
       (Some (unoffered i (deed m (over t) w (slice_index f 1)) (offers m (over t) w (slice_index f 1)))))
       (Some (Process i)))
       (Some (Number i))
-
-  -- what comes after line i: the rest of the run, if nothing is wrong with the line
-  abbrev pub unless : Option Fault → Result Played Fault → Result Played Fault
-  unless (Some fault) rest = Err fault
-  unless None rest = rest
 
   -- the lines from line i on
   abbrev pub lines_played : World Config Place → ℕ → ℕ → List (List ℕ) → Result Played Fault

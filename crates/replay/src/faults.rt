@@ -1,4 +1,10 @@
+ghost use Rattle.std.specs.Prelude.{◌≡◌};
+ghost use Rattle.replay.specs.Notices.{notice, offer};
+ghost use Rattle.replay.specs.Playing.{unmade};
+
 use memory::NotOffered;
+use program::{Notice, Part};
+use worlds::Unmade;
 
 // What an accepted run has.
 #[derive(Clone, Copy, Debug, PartialEq, Eq)]
@@ -8,7 +14,7 @@ pub struct Played {
 }
 
 // Why a text is no written run within bounds that reaches the targets. Lines count from 1.
-#[derive(Clone, Copy)]
+#[derive(Clone, Copy, Debug)]
 pub enum Fault {
     // The length is not that of 0 to 24 lines.
     Length,
@@ -28,4 +34,58 @@ pub enum Fault {
     Bounds { line: u8 },
     // After so many lines the targets are not reached.
     Targets { lines: u8 },
+}
+
+// Why the move of a line is not made.
+#[derive(Clone, Copy)]
+pub(crate) struct AtLine {
+    pub(crate) line: u8,
+    pub(crate) why: Unmade,
+}
+
+impl From<AtLine> for Fault {
+    ghost from_gives = { λ at fault. fault ≡ unmade at.line at.why };
+
+    fn from(at: AtLine) -> Fault {
+        let line = at.line;
+        match at.why {
+            Unmade::NoMove => Fault::NoMove { line },
+            Unmade::Refused(refused) => Fault::Choice { line, refused },
+        }
+    }
+}
+
+impl From<Fault> for Notice {
+    ghost from_gives = { λ fault told. told ≡ notice fault };
+
+    fn from(fault: Fault) -> Notice {
+        let (number, place, part) = match fault {
+            Fault::Length => (42, 0, Part::Text),
+            Fault::Field { line } => (43, line, Part::Text),
+            Fault::Number { line } => (51, line, Part::Run),
+            Fault::Process { line } => (52, line, Part::Run),
+            Fault::NoMove { line } | Fault::Choice { line, .. } => (53, line, Part::Run),
+            Fault::Seen { line } => (54, line, Part::Run),
+            Fault::Bounds { line } => (55, line, Part::Run),
+            Fault::Targets { lines } => (56, lines, Part::Run),
+        };
+        Notice {
+            number,
+            place,
+            part,
+        }
+    }
+}
+
+impl Fault {
+    // How many choices are offered, where the line's is none of them.
+    pub fn offered(self) -> Option<usize>
+        ensures { result ≡ offer self }
+    {
+        match self {
+            Fault::NoMove { .. } => Some(0),
+            Fault::Choice { refused, .. } => Some(refused.offered),
+            _ => None,
+        }
+    }
 }

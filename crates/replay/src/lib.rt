@@ -3,5 +3,9 @@
 #![tactic(auto)]
 
 pub mod faults;
+pub mod playing;
+mod printing;
+mod reading;
 
 pub use faults::{Fault, Played};
+pub use playing::replay;

@@ -6,10 +6,10 @@ use memory::Shape;
 // do. The shape is that of the table for so many steps.
 #[derive(Clone, Copy)]
 pub struct Question {
-    pub(crate) shape: Shape,
-    pub(crate) steps: u8,
-    pub(crate) switches: u8,
-    pub(crate) targets: [u8; 4],
+    pub shape: Shape,
+    pub steps: u8,
+    pub switches: u8,
+    pub targets: [u8; 4],
     ghost short: { steps ≤ 24 },
     ghost few: { switches ≤ 24 },
 }

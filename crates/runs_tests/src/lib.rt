@@ -54,7 +54,13 @@ mod tests {
     ];
 
     // Sequential memory: a step of the other process is a switch.
-    const SEQUENTIAL: Runs = &[&[], &[(1, 0)], &[(1, 0), (2, 0)], &[(2, 0)], &[(2, 0), (1, 0)]];
+    const SEQUENTIAL: Runs = &[
+        &[],
+        &[(1, 0)],
+        &[(1, 0), (2, 0)],
+        &[(2, 0)],
+        &[(2, 0), (1, 0)],
+    ];
 
     const STORE_BUFFERING: [[u16; 6]; 11] = [
         [2, 2, 3, 2, 10, 0],
@@ -98,7 +104,12 @@ mod tests {
         Ok(table)
     }
 
-    fn asked(table: &Table, steps: u16, switches: u16, targets: [u16; 4]) -> Result<Question, Fail> {
+    fn asked(
+        table: &Table,
+        steps: u16,
+        switches: u16,
+        targets: [u16; 4],
+    ) -> Result<Question, Fail> {
         Question::new(table, steps, switches, targets).map_err(|_| Fail::new("not asked"))
     }
 
@@ -114,11 +125,21 @@ mod tests {
                 assert!(rt; next.process == *process && next.choice == *choice);
             }
             left = left.saturating_sub(1);
-            let verdict = if left == 0 { Verdict::None } else { Verdict::More };
-            assert_eq!(rt; cursor.work(table, &mut search, 1), Worked { units: 1, verdict });
+            let verdict = if left == 0 {
+                Verdict::None
+            } else {
+                Verdict::More
+            };
+            assert_eq!(rt;
+                cursor.work(table, &mut search, 1),
+                Worked { units: 1, verdict }
+            );
         }
         let verdict = Verdict::None;
-        assert_eq!(rt; cursor.work(table, &mut search, 7), Worked { units: 0, verdict });
+        assert_eq!(rt;
+            cursor.work(table, &mut search, 7),
+            Worked { units: 0, verdict }
+        );
     }
 
     fn shape(table: &Table, ceiling: u8) -> Result<Shape, Fail> {
@@ -154,7 +175,10 @@ mod tests {
             (5, 1, Verdict::Found),
             (5, 0, Verdict::Found),
         ] {
-            assert_eq!(rt; cursor.work(&table, &mut search, effort), Worked { units, verdict });
+            assert_eq!(rt;
+                cursor.work(&table, &mut search, effort),
+                Worked { units, verdict }
+            );
         }
         assert_eq!(rt; search.run().moves().len(), 1);
         Ok(())
@@ -188,11 +212,17 @@ mod tests {
         let Some(wish) = read_question(b"   1   8   0   5   5   0   0\n") else {
             return Err(Fail::new("not read"));
         };
-        assert_eq!(rt; (wish.steps, wish.switches, wish.targets), (8, 0, [5, 5, 0, 0]));
+        assert_eq!(rt;
+            (wish.steps, wish.switches, wish.targets),
+            (8, 0, [5, 5, 0, 0])
+        );
         let Some(blank) = read_question(b"   0  24       1   2   3   4\n") else {
             return Err(Fail::new("not read"));
         };
-        assert_eq!(rt; (blank.steps, blank.switches, blank.targets), (24, 2, [1, 2, 3, 4]));
+        assert_eq!(rt;
+            (blank.steps, blank.switches, blank.targets),
+            (24, 2, [1, 2, 3, 4])
+        );
         assert!(rt; read_question(b"   2   8   0   5   5   0   0\n").is_none());
         assert!(rt; read_question(b"       8   0   5   5   0   0\n").is_none());
         assert!(rt; read_question(b"   1   8   0   5   5   0   0").is_none());
