@@ -78,11 +78,11 @@ fn ask(heap: Global, table: &Table, wish: Wish, run: &[u8]) -> Result<String, Al
     match Question::new(table, wish.steps, wish.switches, wish.targets) {
         Ok(question) => match wish.memory {
             Kind::Sequential => {
-                let below = Sequential::new(question.shape());
+                let below = Sequential::new(question.shape);
                 play_over(below, heap, table, question, run)
             }
             Kind::ReleaseAcquire => {
-                let below = ReleaseAcquire::new(question.shape());
+                let below = ReleaseAcquire::new(question.shape);
                 play_over(below, heap, table, question, run)
             }
         },

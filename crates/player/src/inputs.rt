@@ -1,6 +1,6 @@
 // The parts of an input.
 
-ghost use Rattle.std.specs.Prelude.{◌≡◌, ◌++◌, ◌≤◌, true, length, take, drop};
+ghost use Rattle.std.specs.Prelude.{◌≡◌, ◌+◌, ◌≤◌, true, length, take, drop};
 ghost use Rattle.player.specs.Parts.{after_blank, before_blank, question_part, table_part, run_part};
 
 // How many bytes a question line has.
@@ -41,6 +41,6 @@ pub(crate) fn cut(input: &[u8]) -> Parts<'_>
     Parts {
         question,
         table: &rest[..at],
-        run: rest.get(at + 1..).unwrap_or(&[]),
+        run: &rest[(at + 1).min(rest.len())..],
     }
 }

@@ -1,6 +1,6 @@
 // A step of a run as it is printed.
 
-ghost use Rattle.std.specs.Prelude.{◌≡◌, if◌then◌else◌, Some, codes};
+ghost use Rattle.std.specs.Prelude.{◌≡◌, if◌then◌else◌, Some, codes, ◌==◌};
 ghost use Rattle.program.specs.Tables.{program};
 ghost use Rattle.player.specs.Words.{deed_words, instruction_of, step_words};
 
