@@ -1,5 +1,5 @@
 -- What is printed for an input.
-use Rattle.std.specs.Prelude.{◌≡◌, ℕ, ◌-◌, ◌/◌, cond, List, [], ◌∷◌, ◌++◌, length, min, take, Some, None, Ok, Err, codes, decimal, Option, Result}
+use Rattle.std.specs.Prelude.{◌≡◌, ℕ, ◌-◌, ◌/◌, List, [], ◌∷◌, ◌++◌, length, take, Some, None, Ok, Err, codes, decimal, Option, Result}
 use Rattle.std.specs.Simd.{first_chunks}
 use Rattle.text.specs.Lines.{line_numbers}
 use Rattle.wording.specs.Amounts.{amount_words}
@@ -85,7 +85,7 @@ Read w text out (Err f) = out ≡ refused (table.notice f).number (table_words.r
 -- of a question line that is read, what is printed for the table; else that it is not
 abbrev pub Wished : List ℕ → List ℕ → Option Wish → Type 0
 Wished input out (Some w) = Read w (run_part input) out (read (table_part input))
-Wished input out None = out ≡ refused 72 (codes "the question line has a wrong field, end or memory")
+Wished input out None = out ≡ codes "refused (72): the question line has a wrong field, end or memory\n"
 
 abbrev pub Answered : List ℕ → List ℕ → Type 0
 Answered input out = Wished input out (wish_of (question_part input))

@@ -1,22 +1,9 @@
 -- What is printed of a run, step by step, and of what comes of it.
-use Rattle.std.specs.Prelude.{ℕ, ◌-◌, ◌/◌, Bool, cond, ◌&&◌, List, [], ◌∷◌, ◌++◌, length, take, Some, None, Ok, Err, codes, decimal, Option, Result, ◌==◌, nat_le, slice_index}
-use Rattle.std.specs.Simd.{first_chunks}
-use Rattle.text.specs.Lines.{line_numbers}
-use Rattle.wording.specs.Amounts.{amount_words}
-use Rattle.program.specs.declared.refusals.Refusal.{Refusal}
+use Rattle.std.specs.Prelude.{ℕ, cond, ◌&&◌, List, ◌++◌, Some, None, codes, decimal, Option, ◌==◌, nat_le, slice_index}
 use Rattle.program.specs.declared.rows.Instruction.{Instruction}
 use Rattle.program.specs.declared.rows.Instruction.TheVariants.{Read, Write, Cas, Set, Add, Jeq, Assume, Fence, Term}
 use Rattle.program.specs.Program.{Program, instruction_at}
-use Rattle.program.specs.Refusals as table
 use Rattle.program.specs.Words as table_words
-use Rattle.runs.specs.declared.questions.Unasked.{Unasked}
-use Rattle.runs.specs.Notices as question
-use Rattle.runs.specs.Words as question_words
-use Rattle.replay.specs.declared.faults.Fault.{Fault}
-use Rattle.replay.specs.declared.faults.Fault.TheVariants.{Length, Field, Number, Process, NoMove, Choice, Seen, Bounds, Targets}
-use Rattle.replay.specs.declared.faults.Played.{Played}
-use Rattle.replay.specs.Notices as run
-use Rattle.replay.specs.Words as run_words
 
 -- the instruction of a process and a label, both below 256
 abbrev pub instruction_of : Program → ℕ → ℕ → Option Instruction

@@ -2,16 +2,18 @@
 
 ghost use Rattle.std.specs.Prelude.{◌≡◌, ◌++◌, IfOk, OnOk, string_bytes};
 ghost use Rattle.memory.specs.Fences.{fenced};
+ghost use Rattle.program.specs.Refusals.{notice};
 ghost use Rattle.program.specs.Tables.{program};
+ghost use Rattle.program.specs.Words.{reason};
 ghost use Rattle.replay.specs.Playing.{played};
 ghost use Rattle.runs.specs.Asked.{judged};
-ghost use Rattle.player.specs.Answers.{Answered, Asked, steps_words, told};
+ghost use Rattle.player.specs.Answers.{Answered, Asked, refused, steps_words, told};
 
 use super::endings::{Ending, lines_before};
 use super::inputs::cut;
 use super::steps::Step;
 use memory::{Fences, Kind, Memory, ReleaseAcquire, Sequential};
-use program::{Notice, Table};
+use program::{Notice, Refusal, Table};
 use replay::{Fault, Played, replay};
 use runs::{Question, Wish, read_question};
 use std::alloc::{AllocError, Global};
@@ -93,6 +95,14 @@ fn ask(heap: Global, table: &Table, wish: Wish, run: &[u8]) -> Result<String, Al
     }
 }
 
+// Why a table is not read.
+fn tell_table(heap: Global, refusal: Refusal) -> Result<String, AllocError>
+    ensures { IfOk result (λ s. string_bytes s ≡ refused (notice refusal).number (reason refusal)) }
+{
+    let number = Notice::from(refusal).number;
+    format!(in heap; "refused ({number}): {refusal}\n")
+}
+
 pub(crate) fn answer(heap: Global, input: &[u8]) -> Result<String, AllocError>
     ensures { IfOk result (λ s. Answered input.now (string_bytes s)) }
 {
@@ -105,9 +115,6 @@ pub(crate) fn answer(heap: Global, input: &[u8]) -> Result<String, AllocError>
     let mut table = Table::empty(heap)?;
     match table.read(parts.table) {
         Ok(()) => ask(heap, &table, wish, parts.run),
-        Err(refusal) => {
-            let number = Notice::from(refusal).number;
-            format!(in heap; "refused ({number}): {refusal}\n")
-        }
+        Err(refusal) => tell_table(heap, refusal),
     }
 }
