@@ -114,7 +114,13 @@ mod tests {
     }
 
     // One run for each unit, in the order of the list, and then none.
-    fn passes<M: Memory>(rt: &impl Abort, below: M, table: &Table, question: Question, list: Runs) {
+    fn passes<M: Memory + Drop>(
+        rt: &impl Abort,
+        below: M,
+        table: &Table,
+        question: Question,
+        list: Runs,
+    ) {
         let mut cursor = Cursor::over(Fences { below });
         let mut search = cursor.begin(table, question);
         let mut left = list.len();
@@ -209,23 +215,144 @@ mod tests {
 
     #[test]
     fn question_lines_are_read(rt: HostRuntime) -> Result<(), Fail> {
-        let Some(wish) = read_question(b"   1   8   0   5   5   0   0\n") else {
+        let Some(wish) = read_question(b"   1   8   0   5   6   0   0\n") else {
             return Err(Fail::new("not read"));
         };
-        assert_eq!(rt;
-            (wish.steps, wish.switches, wish.targets),
-            (8, 0, [5, 5, 0, 0])
-        );
+        assert_eq!(rt; (wish.steps, wish.switches), (8, 0));
+        let [one, two, three, four] = wish.targets;
+        assert_eq!(rt; (one, two, three, four), (5, 6, 0, 0));
         let Some(blank) = read_question(b"   0  24       1   2   3   4\n") else {
             return Err(Fail::new("not read"));
         };
-        assert_eq!(rt;
-            (blank.steps, blank.switches, blank.targets),
-            (24, 2, [1, 2, 3, 4])
-        );
+        assert_eq!(rt; (blank.steps, blank.switches), (24, 2));
         assert!(rt; read_question(b"   2   8   0   5   5   0   0\n").is_none());
         assert!(rt; read_question(b"       8   0   5   5   0   0\n").is_none());
         assert!(rt; read_question(b"   1   8   0   5   5   0   0").is_none());
+        Ok(())
+    }
+
+    // What is told of a written run: its steps and switches, or number, place and offer of the refusal.
+    type Told = Result<(u8, u8), (u8, u8, Option<usize>)>;
+
+    fn told(outcome: Result<Played, Fault>) -> Told {
+        match outcome {
+            Ok(played) => Ok((played.steps, played.switches)),
+            Err(fault) => {
+                let notice = Notice::from(fault);
+                Err((notice.number, notice.place, fault.offered()))
+            },
+        }
+    }
+
+    // The stale run of store buffering, of which line 7 is another one.
+    fn with_seventh(line: [u16; 6]) -> [[u16; 6]; 8] {
+        let mut lines = STALE;
+        lines[6] = line;
+        lines
+    }
+
+    // What playing the lines tells, for at most so many steps and switches.
+    fn played(
+        rt: &impl Abort,
+        heap: Global,
+        steps: u16,
+        switches: u16,
+        lines: &[[u16; 6]],
+    ) -> Result<Told, Fail> {
+        let table = table_of(rt, heap, &STORE_BUFFERING)?;
+        let question = asked(&table, steps, switches, [5, 5, 0, 0])?;
+        let mut world = World::new(Fences {
+            below: ReleaseAcquire::new(question.shape),
+        });
+        let text = text_of(heap, lines)?;
+        Ok(told(replay(&mut world, &table, question, text.as_slice())))
+    }
+
+    #[test]
+    fn runs_are_accepted(rt: HostRuntime) -> Result<(), Fail> {
+        let heap = rt.alloc();
+        assert_eq!(rt; played(&rt, heap, 8, 0, &STALE)?, Ok((8, 0)));
+        assert_eq!(rt; played(&rt, heap, 24, 24, &STALE)?, Ok((8, 0)));
+        Ok(())
+    }
+
+    #[test]
+    fn seventh_line_is_judged(rt: HostRuntime) -> Result<(), Fail> {
+        let heap = rt.alloc();
+        for (line, number, offered) in [
+            ([6, 2, 3, 0, 0, 0], 51, None),
+            ([7, 3, 3, 0, 0, 0], 52, None),
+            ([7, 0, 3, 0, 0, 0], 52, None),
+            ([7, 258, 3, 0, 0, 0], 52, None),
+            ([7, 2, 2, 0, 0, 0], 52, None),
+            ([7, 2, 3, 2, 0, 0], 53, Some(2)),
+            ([7, 1, 5, 0, 0, 0], 53, Some(0)),
+            ([7, 2, 3, 1, 0, 0], 54, None),
+            ([7, 2, 3, 0, 0, 2], 54, None),
+            ([7, 2, 3, 1, 1, 1], 55, None),
+            // The first of two.
+            ([6, 2, 2, 2, 0, 2], 51, None),
+            ([7, 2, 2, 2, 0, 2], 52, None),
+            ([7, 2, 3, 2, 0, 2], 53, Some(2)),
+        ] {
+            let lines = with_seventh(line);
+            assert_eq!(rt; played(&rt, heap, 8, 0, &lines)?, Err((number, 7, offered)));
+        }
+        Ok(())
+    }
+
+    // The values of WRITE and FENCE are 0, whatever a register holds.
+    #[test]
+    fn writes_show_nothing(rt: HostRuntime) -> Result<(), Fail> {
+        let heap = rt.alloc();
+        let mut lines = STALE;
+        lines[1] = [2, 1, 2, 0, 1, 0];
+        assert_eq!(rt; played(&rt, heap, 8, 0, &lines)?, Err((54, 2, None)));
+        Ok(())
+    }
+
+    #[test]
+    fn ends_are_judged(rt: HostRuntime) -> Result<(), Fail> {
+        let heap = rt.alloc();
+        assert_eq!(rt; played(&rt, heap, 8, 0, &STALE[..7])?, Err((56, 7, None)));
+        assert_eq!(rt; played(&rt, heap, 8, 0, &[])?, Err((56, 0, None)));
+        // The line after the last that is allowed is judged before the bound.
+        assert_eq!(rt; played(&rt, heap, 7, 0, &STALE)?, Err((55, 8, None)));
+        let mut lines = STALE;
+        lines[7] = [9, 2, 4, 0, 0, 0];
+        assert_eq!(rt; played(&rt, heap, 7, 0, &lines)?, Err((51, 8, None)));
+        Ok(())
+    }
+
+    #[test]
+    fn texts_are_judged_first(rt: HostRuntime) -> Result<(), Fail> {
+        let heap = rt.alloc();
+        let table = table_of(&rt, heap, &STORE_BUFFERING)?;
+        let question = asked(&table, 8, 0, [5, 5, 0, 0])?;
+        let mut world = World::new(Fences {
+            below: Sequential::new(question.shape),
+        });
+        let mut text = text_of(heap, &STALE)?;
+        // Sequential memory has no stale read, and the first step of process 2 is a switch.
+        assert_eq!(rt;
+            told(replay(&mut world, &table, question, text.as_slice())),
+            Err((54, 5, None))
+        );
+        text.pop();
+        assert_eq!(rt;
+            told(replay(&mut world, &table, question, text.as_slice())),
+            Err((42, 0, None))
+        );
+        text.push(b' ')?;
+        assert_eq!(rt;
+            told(replay(&mut world, &table, question, text.as_slice())),
+            Err((43, 8, None))
+        );
+        let long = text_of(heap, &[[9; 6]; 25])?;
+        assert_eq!(rt;
+            told(replay(&mut world, &table, question, long.as_slice())),
+            Err((42, 0, None))
+        );
         Ok(())
     }
 }
