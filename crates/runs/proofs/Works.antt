@@ -1,5 +1,5 @@
 -- What a search says after works whose efforts add up, of the runs of a table over a memory.
-use Rattle.std.proofs.Common.{◌≡◌, ℕ, ◌+◌, ◌≤◌, List, [], ◌∷◌, Some, None as Nothing, Option, refl, sym, ap, ◌∙◌, subst, arith}
+use Rattle.std.proofs.Common.{◌≡◌, ℕ, ◌+◌, ◌≤◌, Bool, List, [], ◌∷◌, Some, None as Nothing, Option, refl, sym, ap, ◌∙◌, subst, arith}
 use Rattle.memory.specs.declared.actions.Action.{Action}
 use Rattle.memory.specs.Machine.{Machine}
 use Rattle.ceiling.specs.declared.moves.Move.{Move}
@@ -67,7 +67,7 @@ module _ {Config : Type 0} (m : Machine Config) (t : Program) where
       let w = d.world in
       let n = q.steps in
       let k = q.switches in
-      let hit = arrived q in
+      let hit : World Config Place → Bool = arrived q in
       let test = hits m t q in
       let before = shown m t q E in
       let after = shown m t q (E + e) in

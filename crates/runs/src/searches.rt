@@ -1,4 +1,4 @@
-ghost use Rattle.std.specs.Prelude.{◌≤◌, length};
+ghost use Rattle.std.specs.Prelude.{◌≡◌, ◌≤◌, length};
 ghost use Rattle.runs.specs.Paths.{path};
 
 use super::paths::Run;
@@ -13,4 +13,25 @@ pub struct Search {
     pub(crate) verdict: Verdict,
     pub(crate) run: Run,
     ghost within: { length (path run) ≤ question.steps },
+}
+
+impl Search {
+    pub fn question(&self) -> Question
+        ensures { result ≡ self.now.question }
+    {
+        self.question
+    }
+
+    pub fn verdict(&self) -> Verdict
+        ensures { result ≡ self.now.verdict }
+    {
+        self.verdict
+    }
+
+    // The run where the search stands.
+    pub fn run(&self) -> Run
+        ensures { result ≡ self.now.run }
+    {
+        self.run
+    }
 }

@@ -17,27 +17,6 @@ use memory::Memory;
 use program::Table;
 use worlds::World;
 
-impl Search {
-    pub fn question(&self) -> Question
-        ensures { result ≡ self.now.question }
-    {
-        self.question
-    }
-
-    pub fn verdict(&self) -> Verdict
-        ensures { result ≡ self.now.verdict }
-    {
-        self.verdict
-    }
-
-    // The run where the search stands.
-    pub fn run(&self) -> Run
-        ensures { result ≡ self.now.run }
-    {
-        self.run
-    }
-}
-
 impl<M: Memory> Cursor<M> {
     // A cursor over the memory as it stands; every search starts the memory again.
     pub fn over(memory: M) -> Self
@@ -82,10 +61,9 @@ impl<M: Memory> Cursor<M> {
                 return Worked { units, verdict };
             }
         }
-        Worked {
-            units: effort,
-            verdict: Verdict::More,
-        }
+        let units = effort;
+        let verdict = Verdict::More;
+        Worked { units, verdict }
     }
 
     // Makes the search's run again, which is not trusted to be one, and passes along the runs from there.
