@@ -1,5 +1,5 @@
 ghost use Rattle.std.specs.Prelude.{◌≡◌, slice_index};
-ghost use Rattle.runs.specs.Lines.{filled, kind_of, wish_for, wish_of};
+ghost use Rattle.runs.specs.Lines.{filled, is_blank, kind_of, wish_for, wish_of};
 
 use memory::Kind;
 use text::read_line;
@@ -24,11 +24,18 @@ fn kind(number: u16) -> Option<Kind>
     }
 }
 
-// A third field of four spaces stands for the number 2.
+// Whether the third field is four spaces.
+fn is_blank(line: &[u8; 29]) -> bool
+    ensures { result ≡ is_blank line.now }
+{
+    line[8..12].iter().all(|byte| *byte == b' ')
+}
+
+// Such a field stands for the number 2.
 fn filled(mut line: [u8; 29]) -> [u8; 29]
     ensures { result ≡ filled line }
 {
-    if line[8..12].iter().all(|b| *b == b' ') {
+    if is_blank(&line) {
         line[11] = b'2';
     }
     line
