@@ -1,8 +1,8 @@
 -- A work's loop, pass by pass, does what `look` says, and a work after a work is one work with both efforts.
-use Rattle.std.proofs.Common.{◌≡◌, ℕ, zero, suc, ◌+◌, ◌-◌, ◌<◌, ◌≤◌, Bool, true, false, List, [], ◌∷◌, refl, ap, ◌∙◌, arith}
+use Rattle.std.proofs.Common.{◌≡◌, ℕ, zero, suc, ◌+◌, ◌-◌, ◌<◌, Bool, true, false, List, [], ◌∷◌, refl, ap, ◌∙◌, arith}
 use Rattle.ceiling.specs.declared.moves.Move.{Move}
 use Rattle.runs.specs.declared.verdicts.Verdict.{Verdict}
-use Rattle.runs.specs.declared.verdicts.Verdict.TheVariants.{More, Found, None}
+use Rattle.runs.specs.declared.verdicts.Verdict.TheVariants.{Found, None}
 use Rattle.runs.specs.Look.{Look, look, ahead, answers}
 
 -- u runs were looked at, v came of it and L is left
@@ -15,12 +15,6 @@ look_nil t (suc e) = refl
 
 -- The whole work answers A; after some units the loop stands at the run r, and L is to come after it.
 module _ (t : List Move → Bool) (A : Look) (effort units : ℕ) (r : List Move) (L : List (List Move)) (inv : A ≡ ahead units (look t (effort - units) (r ∷ L))) where
-  pub pass_end : effort ≤ units → A ≡ made units More (r ∷ L)
-  pass_end h =
-      let e : effort - units ≡ 0 = omega arith in
-      let z : 0 + units ≡ units = omega arith in
-      inv ∙ ap (λ (k : ℕ). ahead units (look t k (r ∷ L))) e ∙ ap (λ (u : ℕ). made u More (r ∷ L)) z
-
   step_on : units < effort → A ≡ ahead units (look t (suc (effort - (units + 1))) (r ∷ L))
   step_on h =
       let e : effort - units ≡ suc (effort - (units + 1)) = omega arith in

@@ -1,10 +1,10 @@
 -- A search's steps in the tree of runs: a world that stands at a path, a move further, and what is still to come.
 use Rattle.std.proofs.Common.{◌≡◌, ℕ, ◌+◌, ◌-◌, ◌<◌, ◌≤◌, Bool, true, false, cond, List, [], ◌∷◌, ◌++◌, length, get_or, take, drop, drop-cons, add-one, append-nil, refl, sym, ap, ap₂, ◌∙◌, subst, arith}
-use Rattle.std.proofs.lemmas.List.{take-append-drop, take_more, take_all, length_push, nil_from_length}
+use Rattle.std.proofs.lemmas.List.{take-append-drop, take_more, length_push}
 use Rattle.ceiling.specs.declared.moves.Move.{Move}
 use Rattle.runs.specs.Runs.{System, Node, end_of, list, cost, at, after, rest, onward, branch, choices, processes, below, Offered}
 use Rattle.runs.specs.Walk.{Here, Outcome}
-use Rattle.runs.proofs.Tree.{list_is, world_at, at_push, offered_push, offered_part, offered_last, stepped, branch_over, choices_over, choices_all, processes_more, processes_all, below_some, below_none, left_at, after_push}
+use Rattle.runs.proofs.Tree.{list_is, world_at, at_push, offered_push, offered_part, offered_last, stepped, choices_over, choices_all, processes_more, below_some, below_none, left_at, after_push}
 
 pub split_at : (xs : List Move) (i : ℕ) (z : Move) → i < length xs → xs ≡ take i xs ++ (get_or xs i z ∷ drop (i + 1) xs)
 split_at xs i z h =
@@ -72,9 +72,6 @@ module _ {W : Type 0} (S : System W) (d : Node W) where
   here_more w v r k xs i z b l o h e f g =
       subst (Here S d v k) (sym (take_more xs i z l)) (here_push w v r k (take i xs) (get_or xs i z) b h o e f g)
 
-  pub here_all : (w : W) (r : ℕ) (xs : List Move) (i : ℕ) → length xs ≤ i → Here S d w r (take i xs) → Here S d w r xs
-  here_all w r xs i l h = subst (Here S d w r) (take_all i xs l) h
-
   -- a move that there is room for
   pub here_step : (w : W) (r : ℕ) (s : List Move) (m : Move) (b : Bool)
       → d.path ≡ [] → Here S d w r s → m.choice < S.offer w m.process → b ≡ (S.event w m).mark → cond b 1 0 ≤ r
@@ -84,29 +81,13 @@ module _ {W : Type 0} (S : System W) (d : Node W) where
       let k = h.room in
       stepped S d e s m (offered_there w r s m h o) (omega arith)
 
-  -- a move that there is no room for
-  pub here_over : (w : W) (r : ℕ) (s : List Move) (m : Move) (b : Bool)
-      → Here S d w r s → b ≡ (S.event w m).mark → r < cond b 1 0 → branch S (at S d s) m.process m.choice ≡ []
-  here_over w r s m b h f l =
-      let c = costs w r s m b h f in
-      let k = h.room in
-      branch_over S (at S d s) m (omega arith)
-
   -- what is offered depends on the path alone
   pub same_offer : (w v : W) (r k : ℕ) (s t : List Move) (p : ℕ) → Here S d w r s → Here S d v k t → s ≡ t → S.offer v p ≡ S.offer w p
   same_offer w v r k s t p h g e =
       let f : W → ℕ = λ x. S.offer x p in
       ap f g.world ∙ sym (ap (λ (x : List Move). f (at S d x).world) e) ∙ sym (ap f h.world)
 
-  -- The choices of p are tried at s from `from` on; the search stands at t, before choice c, and ends at `to`.
-  pub choose_found : (s t to : List Move) (p from c : ℕ)
-      → t ≡ s → choices S (at S d s) p from ≡ choices S (at S d s) p c
-      → onward S (at S d t) p c ++ after S d t ≡ to ∷ rest S d to
-      → onward S (at S d s) p from ++ after S d s ≡ to ∷ rest S d to
-  choose_found s t to p from c e i f =
-      ap (λ (x : List (List Move)). (x ++ processes S (at S d s) (p + 1)) ++ after S d s) i
-      ∙ subst (λ (x : List Move). onward S (at S d x) p c ++ after S d x ≡ to ∷ rest S d to) e f
-
+  -- The choices of p are tried at s from `from` on; the search stands at t, before choice c.
   pub choose_again : (w : W) (r : ℕ) (s t : List Move) (p from c : ℕ)
       → Here S d w r s → t ≡ s → choices S (at S d s) p from ≡ choices S (at S d s) p c
       → c < S.offer w p → branch S (at S d t) p c ≡ []
@@ -137,10 +118,6 @@ module _ {W : Type 0} (S : System W) (d : Node W) where
   sweep_again s t from q e i l b =
       i ∙ processes_more S (at S d s) q l
       ∙ ap (λ (x : List (List Move)). x ++ processes S (at S d s) (q + 1)) (subst (λ (x : List Move). choices S (at S d x) q 0 ≡ []) e b)
-
-  pub sweep_none : (s : List Move) (from q : ℕ)
-      → processes S (at S d s) from ≡ processes S (at S d s) q → S.processes + 1 ≤ q → processes S (at S d s) from ≡ []
-  sweep_none s from q i l = i ∙ processes_all S (at S d s) q l
 
   -- no choice of p from c on is left at s, and the processes after p are tried
   pub resume_found : (s t to : List Move) (p c : ℕ)
@@ -200,9 +177,3 @@ module _ {W : Type 0} (S : System W) (d : Node W) where
       i ∙ ap (after S d) e ∙ after_push S d s m
       ∙ ap (λ (l : List (List Move)). l ++ after S d s) f.0
       ∙ sym (ap (after S d) f.1)
-
-  pub advance_start : (s t : List Move) → (below S (at S d s) ≡ []) × (t ≡ s) → rest S d s ≡ after S d t
-  advance_start s t f = ap (λ (l : List (List Move)). l ++ after S d s) f.0 ∙ sym (ap (after S d) f.1)
-
-  pub advance_end : (L : List (List Move)) (s : List Move) → length s ≡ 0 → L ≡ after S d s → L ≡ []
-  advance_end L s l i = i ∙ ap (after S d) (nil_from_length s l)

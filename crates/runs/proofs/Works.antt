@@ -23,7 +23,7 @@ use Rattle.runs.specs.Searches.{hits, shown, pending, pending_at, Works, Since, 
 use Rattle.runs.proofs.Tree.{list_is}
 use Rattle.runs.proofs.Walks.{whole}
 use Rattle.runs.proofs.Looks.{made, look_add}
-use Rattle.runs.proofs.Firsts.{says, settles, swap}
+use Rattle.runs.proofs.Firsts.{says, says_one, settles, swap}
 use Rattle.runs.proofs.TheLists.{total_order, is_list, one_list}
 
 module _ {Config : Type 0} (m : Machine Config) (t : Program) where
@@ -105,6 +105,8 @@ module _ {Config : Type 0} (m : Machine Config) (t : Program) where
         },
         record {
           says = told;
+          one = λ L lists v u x h.
+              says_one total_order S w n k hit L lists (E + e) v worked.verdict u (U + worked.units) x r h (told L lists);
           settled = λ closed.
               settles total_order S w n k hit (list S d) (is_list S w n k) (E + e) worked.verdict (U + worked.units) r
               (told (list S d) (is_list S w n k)) closed;

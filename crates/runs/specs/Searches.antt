@@ -66,6 +66,10 @@ module _ {Config : Type 0} (m : Machine Config) (t : Program) where
     -- of the list of the runs within bounds, whichever way it is given
     pub says : (L : List (List Move)) → Lists (system m t) (root m t q).world q.steps q.switches L
         → Says (system m t) (root m t q).world q.steps q.switches (arrived q) L E verdict U r
+    -- which leaves no other answer
+    pub one : (L : List (List Move)) → Lists (system m t) (root m t q).world q.steps q.switches L
+        → (v : Verdict) (u : ℕ) (x : List Move) → Says (system m t) (root m t q).world q.steps q.switches (arrived q) L E v u x
+        → (v ≡ verdict) × (u ≡ U) × (v ≡ Found → x ≡ r)
     -- an answer that is settled is a matter of the runs alone
     pub settled : (verdict ≡ More → ⊥) → Decided (system m t) (root m t q).world q.steps q.switches (arrived q) verdict r
 
