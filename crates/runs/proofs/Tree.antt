@@ -1,8 +1,7 @@
 -- What comes after a run in the list of runs, move by move. Over any system.
 use Rattle.std.proofs.Common.{◌≡◌, ℕ, zero, suc, ◌+◌, ◌-◌, ◌<◌, ◌≤◌, Bool, true, false, List, [], ◌∷◌, ◌++◌, length, sym, refl, ap, ◌∙◌, append_assoc, append-nil, le-leb, arith}
-use Rattle.std.proofs.lemmas.Bool.{lt-leb}
 use Rattle.ceiling.specs.declared.moves.Move.{Move}
-use Rattle.runs.specs.Runs.{System, Node, end_of, switches_of, cost, span, upto, less, child, at, list, branch, choices, processes, below, onward, after, rest, Offered}
+use Rattle.runs.specs.Runs.{System, Node, end_of, cost, span, upto, less, child, at, list, branch, choices, processes, below, onward, after, rest, Offered}
 
 -- the first of the numbers, and the others
 pub upto_more : {A : Type 0} (f : ℕ → List A) (i j : ℕ) → i < j → upto f i j ≡ f i ++ upto f (i + 1) j
@@ -69,10 +68,6 @@ module _ {W : Type 0} (S : System W) where
   world_at d [] = refl
   world_at d (x ∷ s) = world_at (child S d x) s
 
-  pub room_at : (d : Node W) (s : List Move) → (at S d s).room ≡ d.room - switches_of S d.world s
-  room_at d [] = omega arith
-  room_at d (x ∷ s) = let r = room_at (child S d x) s in omega arith
-
   pub offered_push : (d : Node W) (s : List Move) (m : Move)
       → Offered S d s → m.choice < S.offer (at S d s).world m.process → Offered S d (s ++ (m ∷ []))
   offered_push d [] m o h = (h, tt)
@@ -94,12 +89,6 @@ module _ {W : Type 0} (S : System W) where
       let F : Bool → List (List Move) = λ b. elim b [ true ↦ list S (child S d m) | false ↦ [] ] in
       ap F (le-leb (cost S d.world m) d.room h)
 
-  -- and one with none
-  pub branch_over : (d : Node W) (m : Move) → d.room < cost S d.world m → branch S d m.process m.choice ≡ []
-  branch_over d m h =
-      let F : Bool → List (List Move) = λ b. elim b [ true ↦ list S (child S d m) | false ↦ [] ] in
-      ap F (lt-leb (cost S d.world m) d.room h)
-
   -- a choice, and those after it
   pub choices_more : (d : Node W) (p c : ℕ) → c < S.offer d.world p → choices S d p c ≡ branch S d p c ++ choices S d p (c + 1)
   choices_more d p c h = upto_more (branch S d p) c (S.offer d.world p) h
@@ -114,9 +103,6 @@ module _ {W : Type 0} (S : System W) where
   -- a process, and those after it
   pub processes_more : (d : Node W) (p : ℕ) → p < S.processes + 1 → processes S d p ≡ onward S d p 0
   processes_more d p h = upto_more (λ q. choices S d q 0) p (S.processes + 1) h
-
-  pub processes_all : (d : Node W) (p : ℕ) → S.processes + 1 ≤ p → processes S d p ≡ []
-  processes_all d p h = upto_all (λ q. choices S d q 0) p (S.processes + 1) h
 
   regroup : (x a b t : List (List Move)) → ((x ++ a) ++ b) ++ t ≡ x ++ ((a ++ b) ++ t)
   regroup x a b t = simp append_assoc

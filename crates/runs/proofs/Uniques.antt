@@ -19,13 +19,7 @@ before_either r s = elim (sooner_either r s) [
   | inr (inr h) ↦ inr (inr (before_from_sooner s r h))
 ]
 
--- one run stands at a place
-pub stands_same : (L : List (List Move)) (i : ℕ) (r s : List Move) → Stands L i r → Stands L i s → r ≡ s
-stands_same [] i r s h k = absurd h
-stands_same (x ∷ L) zero r s h k = sym h ∙ k
-stands_same (x ∷ L) (suc i) r s h k = stands_same L i r s h k
-
--- and in a list in order a run stands at one place
+-- in a list in order a run stands at one place
 pub stands_once : (L : List (List Move)) → Ordered L → (i j : ℕ) (r : List Move) → Stands L i r → Stands L j r → i ≡ j
 stands_once L o i j r h k = elim (cases_order i j) [
   | inl e ↦ e
