@@ -10,7 +10,7 @@ use Rattle.program.specs.declared.refusals.Refusal.TheVariants.{Length, Field, H
 use Rattle.program.specs.Faults.{Lines, Faulty}
 use Rattle.program.specs.Program.{Six, lines_text, within}
 use Rattle.program.specs.Reading.{line_count, lines, numbers, header_read, header_fits, counts_of}
-use Rattle.program.proofs.Lines.{line_is, count_back}
+use Rattle.program.proofs.LineTexts.{line_is, count_back}
 use Rattle.program.proofs.Outcomes.{cons_err, or_ok, or_err, cond_err, not_both}
 use Rattle.program.proofs.Texts.{header_back}
 

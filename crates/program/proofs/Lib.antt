@@ -5,7 +5,8 @@ pub mod Judged
 pub mod Kept
 pub mod Instructions
 pub mod Outcomes
-pub mod Lines
+pub mod LineTexts
+pub mod Told
 pub mod RowTexts
 pub mod Texts
 pub mod Smalls

@@ -15,7 +15,7 @@ use Rattle.program.specs.Program.{Program, row_fields, table_fields, lines_text,
 use Rattle.program.specs.declared.refusals.Short.{Short}
 use Rattle.program.specs.Reading.{read}
 use Rattle.program.specs.Tables.{lines_of, text_of, table_written}
-use Rattle.program.proofs.Lines.{length_lines}
+use Rattle.program.proofs.LineTexts.{length_lines}
 use Rattle.program.proofs.Starts.{kept_proper}
 use Rattle.program.proofs.Texts.{fields_six, read_back}
 

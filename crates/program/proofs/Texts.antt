@@ -13,7 +13,7 @@ use Rattle.program.specs.Program.{Program, header_fields, row_fields, table_fiel
 use Rattle.program.specs.Reading.{then_do, lines_read, counts_of, header_fits, header_read, named, rows_read, ends_read, body_read, table_read, read}
 use Rattle.program.proofs.Blocks.{tested}
 use Rattle.program.proofs.Judged.{named_rows}
-use Rattle.program.proofs.Lines.{lines_are, lines_back}
+use Rattle.program.proofs.LineTexts.{lines_are, lines_back}
 use Rattle.program.proofs.Outcomes.{then_ok, cond_ok, not_both}
 use Rattle.program.proofs.Smalls.{rows_small, header_small}
 use Rattle.program.proofs.RowTexts.{six_are, rows_are, rows_back, ends_are, ends_back}

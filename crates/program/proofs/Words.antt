@@ -11,7 +11,7 @@ use Rattle.program.specs.Tables.{taken_in}
 use Rattle.program.proofs.Blocks.{blocks, proper_source}
 use Rattle.program.proofs.Faulted.{no_lines, no_numbers, no_header}
 use Rattle.program.proofs.FaultedRows.{no_row, no_end}
-use Rattle.program.proofs.Lines.{count_is, lines_are}
+use Rattle.program.proofs.LineTexts.{count_is, lines_are}
 use Rattle.program.proofs.Outcomes.{not_both, then_err}
 use Rattle.program.proofs.RowTexts.{rows_are}
 use Rattle.program.proofs.Texts.{header_is, read_is, read_back}

@@ -1,8 +1,15 @@
--- A refusal as it is told: number, place and the part that found it.
+-- Refusals: those of lines, and each as it is told, with its number, its place and the part that found it.
+use Rattle.program.specs.declared.lines.Unread.{Unread}
+use Rattle.program.specs.declared.lines.Unread.TheVariants as why
 use Rattle.program.specs.declared.refusals.Refusal.{Refusal}
 use Rattle.program.specs.declared.refusals.Refusal.TheVariants.{Length, Field, Header, Order, Operand, NoTerm, NoProcess}
 use Rattle.program.specs.declared.refusals.Part.TheVariants as part
 use Rattle.program.specs.declared.refusals.Notice.{Notice}
+
+-- lines that are not read, as a table tells it
+abbrev pub unread : Unread → Refusal
+unread why.Length = Length
+unread (why.Field i) = Field i
 
 abbrev pub notice : Refusal → Notice
 notice Length = record { number = 11; place = 0; part = part.Text }

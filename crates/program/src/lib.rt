@@ -5,6 +5,7 @@
 mod access;
 mod decoding;
 mod filling;
+pub mod lines;
 mod printing;
 mod reading;
 pub mod refusals;
@@ -12,6 +13,7 @@ pub mod rows;
 pub mod tables;
 mod writing;
 
+pub use lines::{Unread, read_lines};
 pub use refusals::{Notice, Part, Refusal, Short};
 pub use rows::{Counts, Instruction, Row};
 pub use tables::Table;

@@ -1,48 +1,13 @@
-ghost use Rattle.std.specs.Prelude.{◌≡◌, ◌≤◌, true, [], length, drop, Ok, IfOk, OnOk, slice_index, slice_index_or};
-ghost use Rattle.std.specs.Option.{ok_or};
+ghost use Rattle.std.specs.Prelude.{◌≡◌, ◌≤◌, true, [], length, drop, Ok, IfOk, slice_index, slice_index_or};
 ghost use Rattle.arrayvec.specs.ArrayVec.{array_vec_len};
-ghost use Rattle.text.specs.Lines.{line_numbers};
-ghost use Rattle.program.specs.declared.refusals.Refusal.TheVariants.{Field};
 ghost use Rattle.program.specs.Program.{follows, labels_of, proper, Counted};
-ghost use Rattle.program.specs.Reading.{header_read, row_read, rows_read, ends_read, named, line_count, lines, lines_read, then_do, read};
+ghost use Rattle.program.specs.Reading.{header_read, row_read, rows_read, ends_read, named, then_do, read};
 
 use super::decoding::Scope;
+use super::lines::read_lines;
 use super::refusals::Refusal;
-use super::rows::{Counts, LINE, MOST_LABELS, MOST_LINES, MOST_ROWS, Row};
+use super::rows::{Counts, MOST_LABELS, MOST_LINES, MOST_ROWS, Row};
 use arrayvec::ArrayVec;
-use text::read_line;
-
-// The lines of a text.
-fn cut(text: &[u8]) -> Result<&[[u8; LINE]], Refusal>
-    ensures value { then_do result (λ cut. Ok cut.now) ≡ then_do (line_count text.now) (λ n. Ok (lines n text.now)) }
-    ensures some { IfOk result (λ cut. 2 ≤ length cut.now) }
-    ensures bound { IfOk result (λ cut. length cut.now ≤ 129) }
-{
-    match text.as_chunks::<LINE>() {
-        (lines, []) if (2..=MOST_LINES).contains(&lines.len()) => Ok(lines),
-        _ => Err(Refusal::Length),
-    }
-}
-
-// The numbers of the line that has a number.
-fn numbers(line: &[u8], number: u8) -> Result<[u16; 6], Refusal>
-    ensures { result ≡ ok_or (line_numbers 6 line.now) (Field number) }
-{
-    read_line::<6>(line).ok_or(Refusal::Field { line: number })
-}
-
-// Puts the numbers of each line of a text into an empty vector. The vector is lent: handed out by value
-// it is copied twice, which makes reading a twentieth slower.
-fn split(text: &[u8], all: &mut ArrayVec<[u16; 6], MOST_LINES>) -> Result<(), Refusal>
-    requires { all.old.items ≡ [] }
-    ensures value { then_do result (λ _. Ok all.new.items) ≡ lines_read text.now }
-    ensures some { OnOk result (1 ≤ array_vec_len all.new) }
-{
-    for (i, line) in cut(text)?.iter().enumerate() {
-        all.push(numbers(line, (i + 1) as u8)?);
-    }
-    Ok(())
-}
 
 // The numbers of each line of a text: those of the header, then those of each line below it.
 #[derive(Clone, Copy)]
@@ -198,7 +163,7 @@ pub(crate) fn parse(text: &[u8]) -> Result<Parsed, Refusal>
     ensures { then_do result (λ t. Ok (record { counts = t.frame.counts; rows = t.rows.items })) ≡ read text.now }
 {
     let mut all = ArrayVec::new();
-    split(text, &mut all)?;
+    read_lines(text, 2, &mut all)?;
     let lines = Lines { all: &all };
     let frame = Frame {
         counts: header(lines.header(), lines.below().len())?,

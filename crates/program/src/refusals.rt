@@ -1,5 +1,7 @@
 ghost use Rattle.std.specs.Prelude.{◌≡◌};
-ghost use Rattle.program.specs.Refusals.{notice};
+ghost use Rattle.program.specs.Refusals.{notice, unread};
+
+use super::lines::Unread;
 
 // Why a text is not read as a table. Lines count from 1; the header is line 1.
 #[derive(Clone, Copy, Debug, PartialEq, Eq)]
@@ -18,6 +20,17 @@ pub enum Refusal {
     NoTerm { line: u8 },
     // The rows end before the last process.
     NoProcess { line: u8 },
+}
+
+impl From<Unread> for Refusal {
+    ghost from_gives = { λ why refusal. refusal ≡ unread why };
+
+    fn from(why: Unread) -> Refusal {
+        match why {
+            Unread::Length => Refusal::Length,
+            Unread::Field { line } => Refusal::Field { line },
+        }
+    }
 }
 
 // A buffer is shorter than a table's text, which has this length.

@@ -1,9 +1,6 @@
 ghost use Rattle.std.specs.Prelude.{◌≡◌};
 ghost use Rattle.program.specs.Program.{is_term};
 
-// How many bytes a line of a table's text has.
-pub(crate) const LINE: usize = 25;
-
 // The most rows of a table.
 pub(crate) const MOST_ROWS: usize = 128;
 

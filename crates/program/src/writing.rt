@@ -4,8 +4,9 @@ ghost use Rattle.program.specs.Program.{instruction_fields, row_fields, header_f
 ghost use Rattle.program.specs.Reading.{read};
 ghost use Rattle.program.specs.Tables.{program, text_of, table_written};
 
+use super::lines::LINE;
 use super::refusals::Short;
-use super::rows::{Counts, Instruction, LINE, Row};
+use super::rows::{Counts, Instruction, Row};
 use super::tables::Table;
 use text::write_line;
 

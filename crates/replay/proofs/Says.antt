@@ -9,7 +9,7 @@ use Rattle.ceiling.specs.declared.moves.Move.{Move}
 use Rattle.ceiling.specs.Programs.{World, next, opening}
 use Rattle.program.specs.Program.{Program, Six, kept, lines_text}
 use Rattle.program.specs.Reading.{then_do}
-use Rattle.program.proofs.Lines.{lines_are, lines_back}
+use Rattle.program.proofs.LineTexts.{lines_are, lines_back}
 use Rattle.program.proofs.Outcomes.{not_both, then_ok}
 use Rattle.worlds.specs.declared.places.Place.{Place}
 use Rattle.worlds.specs.Worlds.{over}

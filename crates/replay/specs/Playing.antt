@@ -4,8 +4,10 @@ use Rattle.memory.specs.declared.actions.Action.{Action}
 use Rattle.memory.specs.Machine.{Machine}
 use Rattle.ceiling.specs.declared.moves.Move.{Move}
 use Rattle.ceiling.specs.Programs.{World, deed, offers, next, opening}
+use Rattle.program.specs.declared.lines.Unread.{Unread}
+use Rattle.program.specs.declared.lines.Unread.TheVariants as of_lines
 use Rattle.program.specs.Program.{Program}
-use Rattle.program.specs.Reading.{then_do, count_or, numbers_or, lines_or}
+use Rattle.program.specs.Reading.{then_do, lines_or}
 use Rattle.worlds.specs.declared.places.Place.{Place}
 use Rattle.worlds.specs.declared.records.Record.{Record}
 use Rattle.worlds.specs.declared.records.Unmade.{Unmade}
@@ -29,16 +31,14 @@ record_fields i r = i ∷ (r.process ∷ (r.label ∷ (r.choice ∷ (r.value ∷
 abbrev pub move_of : List ℕ → Move
 move_of f = record { process = slice_index f 1; choice = slice_index f 3 }
 
--- how many lines a text has: at most 24
-abbrev pub line_count : List ℕ → Result ℕ Fault
-line_count = count_or 0 24 Length
-
--- the numbers of each line, from line i on
-abbrev pub numbers : ℕ → List (List ℕ) → Result (List (List ℕ)) Fault
-numbers = numbers_or Field
-
+-- the numbers of each line, of which there are at most 24
 abbrev pub lines_read : List ℕ → Result (List (List ℕ)) Fault
 lines_read = lines_or 0 24 Length Field
+
+-- lines that are not read, as a run tells it
+abbrev pub unread : Unread → Fault
+unread of_lines.Length = Length
+unread (of_lines.Field i) = Field i
 
 -- there is such a label, and it is this one
 abbrev pub is_label : Option ℕ → ℕ → Bool

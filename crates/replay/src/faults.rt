@@ -1,9 +1,9 @@
 ghost use Rattle.std.specs.Prelude.{◌≡◌};
 ghost use Rattle.replay.specs.Notices.{notice, offer};
-ghost use Rattle.replay.specs.Playing.{unmade};
+ghost use Rattle.replay.specs.Playing.{unmade, unread};
 
 use memory::NotOffered;
-use program::{Notice, Part};
+use program::{Notice, Part, Unread};
 use worlds::Unmade;
 
 // What an accepted run has.
@@ -34,6 +34,17 @@ pub enum Fault {
     Bounds { line: u8 },
     // After so many lines the targets are not reached.
     Targets { lines: u8 },
+}
+
+impl From<Unread> for Fault {
+    ghost from_gives = { λ why fault. fault ≡ unread why };
+
+    fn from(why: Unread) -> Fault {
+        match why {
+            Unread::Length => Fault::Length,
+            Unread::Field { line } => Fault::Field { line },
+        }
+    }
 }
 
 // Why the move of a line is not made.

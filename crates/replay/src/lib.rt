@@ -5,7 +5,6 @@
 pub mod faults;
 pub mod playing;
 mod printing;
-mod reading;
 
 pub use faults::{Fault, Played};
 pub use playing::replay;

@@ -7,13 +7,15 @@ ghost use Rattle.replay.specs.Turns.{allowed, judged, Stepped, Turned};
 ghost use Rattle.replay.specs.Written.{Says};
 
 use super::faults::{AtLine, Fault, Played};
-use super::reading::split;
 use arrayvec::ArrayVec;
 use ceiling::Move;
 use memory::Memory;
-use program::Table;
+use program::{Table, read_lines};
 use runs::Question;
 use worlds::{Record, World};
+
+// The most lines: a question has at most so many steps.
+const MOST_LINES: usize = 24;
 
 // What a line is judged by: the table and the question, its number, and the switches before it.
 #[derive(Clone, Copy)]
@@ -136,7 +138,7 @@ pub fn replay<M: Memory>(
     ensures value { result ≡ played M.machine (program table.now) question text.now }
     ensures words { Says M.machine (program table.now) question text.now result }
 {
-    let mut all = ArrayVec::new();
-    split(text, &mut all)?;
+    let mut all = ArrayVec::<_, MOST_LINES>::new();
+    read_lines(text, 0, &mut all)?;
     play(world, table, question, &all)
 }
