@@ -1,4 +1,4 @@
-ghost use Rattle.std.specs.Prelude.{◌≡◌, ◌≤◌, min, length, Ok, IfOk, OnOk};
+ghost use Rattle.std.specs.Prelude.{◌≡◌, ◌≤◌, min, [], length, Ok, IfOk, OnErr, OnOk};
 ghost use Rattle.std.specs.Option.{ok_or};
 ghost use Rattle.arrayvec.specs.ArrayVec.{array_vec_len};
 ghost use Rattle.text.specs.Lines.{line_numbers};
@@ -39,9 +39,26 @@ fn numbers(line: &[u8], number: u8) -> Result<[u16; 6], Unread>
     read_line::<6>(line).ok_or(Unread::Field { line: number })
 }
 
-// Puts the numbers of each line of a text into a vector, in the place of what it holds. There may be as few lines as
-// said and as many as the vector has room for, but no more than 255, since a byte tells which line is wrong. The
-// vector is lent: handed out by value it is copied twice, which makes reading a twentieth slower.
+// Puts the numbers of each line of a text into an empty vector.
+fn fill<const MOST: usize>(
+    text: &[u8],
+    least: usize,
+    all: &mut ArrayVec<[u16; 6], MOST>,
+) -> Result<(), Unread>
+    requires { all.old.items ≡ [] }
+    ensures value { then_do result (λ _. Ok all.new.items) ≡ lines_or least (min MOST 255) Length Field text.now }
+    ensures least { OnOk result (least ≤ array_vec_len all.new) }
+{
+    let most = MOST.min(255);
+    for (i, line) in cut(text, least, most)?.iter().enumerate() {
+        all.push(numbers(line, (i + 1) as u8)?);
+    }
+    Ok(())
+}
+
+// Puts the numbers of each line of a text into a vector, in the place of what it holds; a refusal leaves it empty. There
+// may be as few lines as said and as many as the vector has room for, but no more than 255, since a byte tells which
+// line is wrong. The vector is lent: handed out by value it is copied twice, which makes reading a twentieth slower.
 pub fn read_lines<const MOST: usize>(
     text: &[u8],
     least: usize,
@@ -49,11 +66,12 @@ pub fn read_lines<const MOST: usize>(
 ) -> Result<(), Unread>
     ensures value { then_do result (λ _. Ok all.new.items) ≡ lines_or least (min MOST 255) Length Field text.now }
     ensures least { OnOk result (least ≤ array_vec_len all.new) }
+    ensures refused { OnErr result (all.new.items ≡ []) }
 {
     all.clear();
-    let most = MOST.min(255);
-    for (i, line) in cut(text, least, most)?.iter().enumerate() {
-        all.push(numbers(line, (i + 1) as u8)?);
+    let read = fill(text, least, all);
+    if read.is_err() {
+        all.clear();
     }
-    Ok(())
+    read
 }

@@ -2,7 +2,7 @@ use Rattle.std.proofs.Common.{◌≡◌, ◌+◌, length, drop}
 use Rattle.program.specs.declared.lines.Unread.TheVariants.{Field}
 use Rattle.program.specs.Reading.{numbers_or}
 use Rattle.program.proofs.Fronts.{front}
-use Rattle.program.proofs.lines.read_lines.Given as goal
+use Rattle.program.proofs.lines.fill.Given as goal
 
 abbrev pub invariant-loop-i : goal.invariant-loop-i
 invariant-loop-i g l = record {
