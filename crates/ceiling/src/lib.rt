@@ -1,5 +1,5 @@
-// Programs over a memory, and how high a ceiling a question about their runs needs: what release-acquire memory reaches in n steps with timestamps of any
-// size, it reaches under the ceiling n.
+// Programs over a memory, and how high a ceiling a question about their runs needs: what release-acquire memory
+// reaches in n steps with timestamps of any size, it reaches under the ceiling n.
 
 #![tactic(auto)]
 

@@ -18,7 +18,7 @@ Shaped p v n None = Limits p v n → ⊥
 abbrev pub limited : ℕ → ℕ → ℕ → Bool
 limited p v n = nat_le 1 p && (nat_le p 4 && (nat_le 1 v && (nat_le v 4 && nat_le n 24)))
 
-t_parts : (a b : Bool) → T (a && b) → T a × T b
+pub t_parts : (a b : Bool) → T (a && b) → T a × T b
 t_parts true b h = (tt, h)
 t_parts false b h = absurd h
 

@@ -11,3 +11,4 @@ pub mod Sights
 pub mod Firsts
 pub mod Looks
 pub mod Works
+pub mod Asked

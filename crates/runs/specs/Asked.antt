@@ -1,7 +1,9 @@
 -- The runs that a question asks for, of a table over a memory.
-use Rattle.std.specs.Prelude.{◌≡◌, ℕ, ◌+◌, ◌-◌, Bool, cond, ◌&&◌, ◌||◌, List, [], ◌∷◌, Some, Ok, Err, Result, ◌==◌, nat_le, slice_index}
+use Rattle.std.specs.Prelude.{◌≡◌, ℕ, ◌+◌, ◌-◌, ◌≤◌, Bool, true, false, cond, ◌&&◌, ◌||◌, T, List, [], ◌∷◌, Some, None, Ok, Err, Option, Result, ◌==◌, nat_le, slice_index}
+use Rattle.std.proofs.Common.{leb→le}
+use Rattle.memory.specs.Shapes.{shape_by, t_parts}
 use Rattle.memory.specs.Machine.{Machine}
-use Rattle.memory.specs.Shapes.{shape_by}
+use Rattle.memory.specs.declared.shapes.Shape.{Shape}
 use Rattle.ceiling.specs.Programs.{World, opening, offers, next, event}
 use Rattle.program.specs.Program.{Program, is_nothing, labels_of}
 use Rattle.worlds.specs.declared.places.Place.{Place}
@@ -53,3 +55,18 @@ pub record Asks (t : Program) (n k : ℕ) (targets : List ℕ) (q : Question) : 
   pub steps : q.steps ≡ n
   pub switches : q.switches ≡ k
   pub targets_are : q.targets ≡ targets
+
+-- The same as a definition that computes: the question of these numbers, or none just where a bound is above 24 or the
+-- table has no shape.
+pub bounds : (n k : ℕ) → T (nat_le n 24 && nat_le k 24) → (n ≤ 24) × (k ≤ 24)
+bounds n k h = let both = t_parts (nat_le n 24) (nat_le k 24) h in (leb→le n 24 both.0, leb→le k 24 both.1)
+
+abbrev pub question_if : (n k : ℕ) → List ℕ → (b : Bool) → (T b → (n ≤ 24) × (k ≤ 24)) → Option Shape → Option Question
+question_if n k targets true h (Some s) =
+    Some (record { shape = s; steps = n; switches = k; targets = targets; short = (h tt).0; few = (h tt).1 })
+question_if n k targets true h None = None
+question_if n k targets false h s = None
+
+abbrev pub question_by : Program → ℕ → ℕ → List ℕ → Option Question
+question_by t n k targets =
+    question_if n k targets (nat_le n 24 && nat_le k 24) (bounds n k) (shape_by t.counts.processes t.counts.variables n)

@@ -38,7 +38,7 @@ module _ {W : Type 0} (S : System W) (w : W) (n k : ℕ) (hit : W → Bool) wher
     pub more : (v ≡ More) ↔ (((i : ℕ) (r : List Move) → i < E → Stands L i r → Reaches r → ⊥) × (E < length L))
     pub more_units : v ≡ More → u ≡ E
 
-  -- With effort for the whole list the answer is a matter of the runs alone.
+  -- Once settled, the answer is a matter of the runs alone.
   pub record Decided (v : Verdict) (x : List Move) : Type 0 where
     pub found : (r : List Move) → ((v ≡ Found) × (x ≡ r)) ↔ First r
     pub none : (v ≡ None) ↔ Nowhere

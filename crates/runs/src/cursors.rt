@@ -4,7 +4,7 @@ use worlds::World;
 // A world, and the run that led to it; so many switches are left.
 #[derive(Drop)]
 pub struct Cursor<M> {
-    pub(crate) world: World<M>,
-    pub(crate) run: Run,
-    pub(crate) room: u8,
+    pub world: World<M>,
+    pub run: Run,
+    pub room: u8,
 }

@@ -1,4 +1,4 @@
-ghost use Rattle.std.specs.Prelude.{◌≡◌, ◌≤◌, length};
+ghost use Rattle.std.specs.Prelude.{◌≤◌, length};
 ghost use Rattle.runs.specs.Paths.{path};
 
 use super::paths::Run;
@@ -9,29 +9,8 @@ use super::verdicts::Verdict;
 // look at or the one that it found.
 #[derive(Clone, Copy)]
 pub struct Search {
-    pub(crate) question: Question,
-    pub(crate) verdict: Verdict,
-    pub(crate) run: Run,
+    pub question: Question,
+    pub verdict: Verdict,
+    pub run: Run,
     ghost within: { length (path run) ≤ question.steps },
-}
-
-impl Search {
-    pub fn question(&self) -> Question
-        ensures { result ≡ self.now.question }
-    {
-        self.question
-    }
-
-    pub fn verdict(&self) -> Verdict
-        ensures { result ≡ self.now.verdict }
-    {
-        self.verdict
-    }
-
-    // The run where the search stands.
-    pub fn run(&self) -> Run
-        ensures { result ≡ self.now.run }
-    {
-        self.run
-    }
 }

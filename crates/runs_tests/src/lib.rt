@@ -125,7 +125,7 @@ mod tests {
         let mut search = cursor.begin(table, question);
         let mut left = list.len();
         for run in list {
-            let here = search.run();
+            let here = search.run;
             assert_eq!(rt; here.moves().len(), run.len());
             for (next, (process, choice)) in here.moves().iter().zip(*run) {
                 assert!(rt; next.process == *process && next.choice == *choice);
@@ -186,7 +186,7 @@ mod tests {
                 Worked { units, verdict }
             );
         }
-        assert_eq!(rt; search.run().moves().len(), 1);
+        assert_eq!(rt; search.run.moves().len(), 1);
         Ok(())
     }
 

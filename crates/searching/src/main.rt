@@ -38,7 +38,7 @@ fn search<M: Memory>(cursor: &mut Cursor<M>, table: &Table, question: Question) 
     }
     Tally {
         looked,
-        verdict: search.verdict(),
+        verdict: search.verdict,
     }
 }
 
