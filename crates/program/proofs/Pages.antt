@@ -49,7 +49,7 @@ module _ (fs : List (List ℕ)) (six : AllByRecursion Six fs) (o out : List ℕ)
   front_long : length (lines_text (take i fs)) ≡ 25 * i
   front_long = length_lines (take i fs) (All-take Six i fs six) ∙ ap (λ (n : ℕ). 25 * n) (length-take-le i fs (omega arith))
 
-  page_more : (f new : List ℕ) → f ≡ get_or fs i [] → new ≡ take (25 * i) out ++ (line_text f ++ drop (25 * i + 25) out) → new ≡ lines_text (take (i + 1) fs) ++ drop (25 * (i + 1)) o
+  pub page_more : (f new : List ℕ) → f ≡ get_or fs i [] → new ≡ take (25 * i) out ++ (line_text f ++ drop (25 * i + 25) out) → new ≡ lines_text (take (i + 1) fs) ++ drop (25 * (i + 1)) o
   page_more f new e n =
       let head : take (25 * i) out ≡ lines_text (take i fs) = ap (λ (z : List ℕ). take (25 * i) z) so_far ∙ take_at (lines_text (take i fs)) (drop (25 * i) o) (25 * i) front_long in
       let tail : drop (25 * i) out ≡ drop (25 * i) o = ap (λ (z : List ℕ). drop (25 * i) z) so_far ∙ drop_at (lines_text (take i fs)) (drop (25 * i) o) (25 * i) front_long in

@@ -77,7 +77,7 @@ header_back c n fit low high =
     let good : header_fits (header_fields c n) n ≡ true = and_from _ _ a.0 (and_from _ _ b.0 (and_from _ _ d.0 (and_from _ _ d.1 (and_from _ _ rows (and_from (eqb n n) true (eq-eqb n n refl) refl))))) in
     ap (λ (t : Bool). cond t (Ok (counts_of (header_fields c n))) (Err Header)) good
 
-ends_some : (P : ℕ) (rows : List Row) → ends_fit P rows ≡ true → 1 ≤ length rows
+pub ends_some : (P : ℕ) (rows : List Row) → ends_fit P rows ≡ true → 1 ≤ length rows
 ends_some P [] e = let z : ◌≡◌ {A = ℕ} 0 1 = cc in let y : ⊥ = omega arith in elim y [ ]
 ends_some P (r ∷ rows) e = omega arith
 

@@ -1,5 +1,5 @@
 -- A work's loop, pass by pass, does what `look` says, and a work after a work is one work with both efforts.
-use Rattle.std.proofs.Common.{◌≡◌, ℕ, zero, suc, ◌+◌, ◌-◌, ◌<◌, Bool, true, false, List, [], ◌∷◌, refl, ap, ◌∙◌, arith}
+use Rattle.std.proofs.Common.{◌≡◌, ℕ, zero, suc, ◌+◌, ◌-◌, ◌<◌, ◌≤◌, Bool, true, false, List, [], ◌∷◌, length, refl, ap, ◌∙◌, arith}
 use Rattle.ceiling.specs.declared.moves.Move.{Move}
 use Rattle.runs.specs.declared.verdicts.Verdict.{Verdict}
 use Rattle.runs.specs.declared.verdicts.Verdict.TheVariants.{Found, None}
@@ -45,6 +45,22 @@ module _ (t : List Move → Bool) (A : Look) (effort units : ℕ) (r : List Move
   pub pass_next : (K : List (List Move)) → units < effort → t r ≡ false → L ≡ K → A ≡ ahead (units + 1) (look t (effort - (units + 1)) K)
   pass_next K h y e = pass_more h y ∙ ap (λ (l : List (List Move)). ahead (units + 1) (look t (effort - (units + 1)) l)) e
 
+-- as many units as runs at most
+pub look_few : (t : List Move → Bool) (e : ℕ) (L : List (List Move)) → (look t e L).units ≤ length L
+look_few t zero [] = omega arith
+look_few t zero (r ∷ L) = omega arith
+look_few t (suc e) [] = omega arith
+look_few t (suc e) (r ∷ L) = go (t r) (look_few t e L)
+  where
+    go : (b : Bool) → (look t e L).units ≤ length L
+        → (elim b as (λ _. Look) [ true ↦ made 1 Found (r ∷ L) | false ↦ ahead 1 (look t e L) ]).units ≤ length (r ∷ L)
+    go true few = omega arith
+    go false few = omega arith
+
+pub look_none : (t : List Move → Bool) (L : List (List Move)) → (look t 0 L).units ≡ 0
+look_none t [] = refl
+look_none t (r ∷ L) = refl
+
 ahead_zero : (l : Look) → l ≡ ahead 0 l
 ahead_zero l = let e : l.units ≡ l.units + 0 = omega arith in ap (λ (u : ℕ). made u l.verdict l.left) e
 
@@ -75,3 +91,7 @@ look_add t (suc e) f (r ∷ L) =
     go false ih =
         let l = look t e L in
         ap (ahead 1) ih ∙ ahead_ahead (answers l.verdict t f l.left) l.units
+
+-- more effort, no fewer units
+pub look_rises : (t : List Move → Bool) (e f : ℕ) (L : List (List Move)) → (look t e L).units ≤ (look t (e + f) L).units
+look_rises t e f L = omega (arith, ap (λ (l : Look). l.units) (look_add t e f L))

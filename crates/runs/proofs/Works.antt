@@ -54,6 +54,32 @@ module _ {Config : Type 0} (m : Machine Config) (t : Program) where
         units = sym (ap (λ (x : Look). x.units) first);
       }
 
+  -- What the efforts E in all show is what is to be told, with any run where none is found.
+  pub tells_by : (q : Question) (E U : ℕ) (v : Verdict) (r : List Move) → v ≡ (shown m t q E).verdict → U ≡ (shown m t q E).units
+      → (v ≡ Found → front (shown m t q E).left ≡ r) → Tells m t q E U v r
+  tells_by q E U v r verdict units run =
+      let S = system m t in
+      let d = root m t q in
+      let w = d.world in
+      let n = q.steps in
+      let k = q.switches in
+      let hit : World Config Place → Bool = arrived q in
+      let after = shown m t q E in
+      let told : (L : List (List Move)) → Lists S w n k L → Says S w n k hit L E v U r = λ L lists.
+      let all = says total_order S w n k hit L lists E in
+      let same : look (hits m t q) E L ≡ after = ap (look (hits m t q) E) (one_list S w n k L (list S d) lists (is_list S w n k)) in
+      let here : Says S w n k hit L E after.verdict after.units (front after.left) =
+      subst (λ (l : Look). Says S w n k hit L E l.verdict l.units (front l.left)) same all in
+      let stands : Says S w n k hit L E v U (front after.left) =
+      subst (λ (x : Verdict). Says S w n k hit L E x U (front after.left)) (sym verdict)
+      (subst (λ (u : ℕ). Says S w n k hit L E after.verdict u (front after.left)) (sym units) here) in
+      swap S w n k hit L E v U (front after.left) r run stands in
+      record {
+        says = told;
+        one = λ L lists x u y h. says_one total_order S w n k hit L lists E x v u U y r h (told L lists);
+        settled = λ closed. settles total_order S w n k hit (list S d) (is_list S w n k) E v U r (told (list S d) (is_list S w n k)) closed;
+      }
+
   -- the runs left begin with the run at which a search stands that has found it
   found_at : (q : Question) (v : Verdict) (r : List Move) → v ≡ Found → front (pending_at m t q v r) ≡ r
   found_at q v r e = ap (λ (x : Verdict). front (pending_at m t q x r)) e
@@ -61,13 +87,7 @@ module _ {Config : Type 0} (m : Machine Config) (t : Program) where
   pub further : (s new : Search) (e E U : ℕ) (worked : Worked) → Since m t s E U → Works m t s e worked new
       → Since m t new (E + e) (U + worked.units) × Tells m t s.question (E + e) (U + worked.units) worked.verdict (path new.run)
   further s new e E U worked since works =
-      let S = system m t in
       let q = s.question in
-      let d = root m t q in
-      let w = d.world in
-      let n = q.steps in
-      let k = q.switches in
-      let hit : World Config Place → Bool = arrived q in
       let test = hits m t q in
       let before = shown m t q E in
       let after = shown m t q (E + e) in
@@ -79,21 +99,11 @@ module _ {Config : Type 0} (m : Machine Config) (t : Program) where
       subst (λ (v : Verdict). answers v test e before.left ≡ done) since.verdict
       (subst (λ (l : List (List Move)). answers s.verdict test e l ≡ done) since.left goes.looked) in
       let sum : after ≡ made (worked.units + before.units) worked.verdict left =
-      look_add test E e (list S d) ∙ ap (λ (l : Look). made (l.units + before.units) l.verdict l.left) looked in
+      look_add test E e (list (system m t) (root m t q)) ∙ ap (λ (l : Look). made (l.units + before.units) l.verdict l.left) looked in
       let units : U + worked.units ≡ after.units =
       let a = since.units in let b = ap (λ (l : Look). l.units) sum in omega arith in
       let verdict : worked.verdict ≡ after.verdict = sym (ap (λ (l : Look). l.verdict) sum) in
-      let lefts : left ≡ after.left = sym (ap (λ (l : Look). l.left) sum) in
-      let told : (L : List (List Move)) → Lists S w n k L → Says S w n k hit L (E + e) worked.verdict (U + worked.units) r = λ L lists.
-      let all = says total_order S w n k hit L lists (E + e) in
-      let same : look test (E + e) L ≡ after = ap (look test (E + e)) (one_list S w n k L (list S d) lists (is_list S w n k)) in
-      let here : Says S w n k hit L (E + e) after.verdict after.units (front after.left) =
-      subst (λ (l : Look). Says S w n k hit L (E + e) l.verdict l.units (front l.left)) same all in
-      let stands : Says S w n k hit L (E + e) worked.verdict (U + worked.units) (front after.left) =
-      subst (λ (v : Verdict). Says S w n k hit L (E + e) v (U + worked.units) (front after.left)) (sym verdict)
-      (subst (λ (u : ℕ). Says S w n k hit L (E + e) after.verdict u (front after.left)) (sym units) here) in
-      swap S w n k hit L (E + e) worked.verdict (U + worked.units) (front after.left) r
-      (λ f. ap front (sym lefts) ∙ found_at q worked.verdict r f) stands in (
+      let lefts : left ≡ after.left = sym (ap (λ (l : Look). l.left) sum) in (
         record {
           run = subst (λ (x : Question). IsPath m t x r) (sym works.question) goes.run;
           verdict = works.verdict ∙ verdict ∙ ap (λ (x : Question). (shown m t x (E + e)).verdict) (sym works.question);
@@ -103,12 +113,5 @@ module _ {Config : Type 0} (m : Machine Config) (t : Program) where
               ∙ lefts ∙ ap (λ (x : Question). (shown m t x (E + e)).left) (sym works.question);
           units = units ∙ ap (λ (x : Question). (shown m t x (E + e)).units) (sym works.question);
         },
-        record {
-          says = told;
-          one = λ L lists v u x h.
-              says_one total_order S w n k hit L lists (E + e) v worked.verdict u (U + worked.units) x r h (told L lists);
-          settled = λ closed.
-              settles total_order S w n k hit (list S d) (is_list S w n k) (E + e) worked.verdict (U + worked.units) r
-              (told (list S d) (is_list S w n k)) closed;
-        },
+        tells_by q (E + e) (U + worked.units) worked.verdict r verdict units (λ f. ap front (sym lefts) ∙ found_at q worked.verdict r f),
       )

@@ -5,7 +5,7 @@ use memory::NotOffered;
 
 // One step of a run as it was made: the label is that of the process before it, and the value what it saw, 0 unless
 // it is a READ or a CAS.
-#[derive(Clone, Copy)]
+#[derive(Clone, Copy, Default)]
 pub struct Record {
     pub process: u8,
     pub label: u8,

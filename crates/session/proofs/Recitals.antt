@@ -1,0 +1,54 @@
+-- The steps that moves are, one after another.
+use Rattle.std.proofs.Common.{◌≡◌, ℕ, zero, suc, ◌-◌, ◌<◌, ◌≤◌, Bool, true, false, List, [], ◌∷◌, ◌++◌, length, Some, None, Option, nat_lt, slice_get, refl, sym, ap, ◌∙◌, append_assoc, append-nil, arith}
+use Rattle.std.specs.List.{AllByRecursion}
+use Rattle.std.proofs.lemmas.Bool.{lt-leb, cases_lt, ltb-true}
+use Rattle.memory.specs.declared.actions.Action.{Action}
+use Rattle.memory.specs.declared.shapes.Shape.{Shape}
+use Rattle.memory.specs.Machine.{Machine}
+use Rattle.ceiling.specs.declared.moves.Move.{Move}
+use Rattle.ceiling.specs.Programs.{World, next, offers, opening}
+use Rattle.program.specs.Program.{Program}
+use Rattle.worlds.specs.declared.places.Place.{Place}
+use Rattle.worlds.specs.declared.records.Record.{Record}
+use Rattle.worlds.specs.Worlds.{over, record_of}
+use Rattle.runs.specs.declared.searches.Search.{Search}
+use Rattle.runs.specs.Paths.{path}
+use Rattle.runs.proofs.Works.{narrow}
+use Rattle.session.specs.Contents.{if_found, steps_by}
+use Rattle.session.specs.Recited.{records_of, recited, nth, InField}
+
+module _ {Config : Type 0} (m : Machine Config) (t : Program) where
+  -- what is told of a move and those after it, by whether it is offered
+  abbrev pub told_if : World Config Place → Move → List Move → Bool → List Record
+  told_if w k ks b = elim b [ true ↦ record_of m t w k ∷ recited m t (next m (over t) w k) ks | false ↦ [] ]
+
+  -- a world that was started is at the start of the runs
+  pub from_start : (w : World Config Place) (s : Shape) (ks : List Move)
+      → ((p : Program) → w ≡ opening m (over p) s) → recited m t w ks ≡ recited m t (opening m (over t) s) ks
+  from_start w s ks h = ap (λ v. recited m t v ks) (h t)
+
+  -- every choice is below the offer, so it fits a field
+  pub recited_small : (widest : ℕ) → ((s : Config) (p : ℕ) (a : Action) → m.offer s p a ≤ widest) → widest ≤ 9999
+      → (w : World Config Place) (ks : List Move) → AllByRecursion InField (recited m t w ks)
+  recited_small widest few low w [] = tt
+  recited_small widest few low w (k ∷ ks) =
+      go (recited_small widest few low (next m (over t) w k) ks) (nat_lt k.choice (offers m (over t) w k.process)) refl
+    where
+      go : AllByRecursion InField (recited m t (next m (over t) w k) ks) → (b : Bool)
+          → nat_lt k.choice (offers m (over t) w k.process) ≡ b → AllByRecursion InField (told_if w k ks b)
+      go later true e = (omega (arith, narrow m t widest few w k.process, ltb-true k.choice (offers m (over t) w k.process) e), later)
+      go later false e = tt
+
+  pub steps_small : (widest : ℕ) → ((s : Config) (p : ℕ) (a : Action) → m.offer s p a ≤ widest) → widest ≤ 9999
+      → (o : Option Search) → AllByRecursion InField (steps_by m t o)
+  steps_small widest few low (Some s) =
+      recited_small widest few low (opening m (over t) s.question.shape) (if_found s.verdict (path s.run))
+  steps_small widest few low None = tt
+
+pub nth_none : {A : Type 0} (i : ℕ) (xs : List A) → i ≡ 0 → None ≡ nth i xs
+nth_none zero xs e = refl
+nth_none (suc i) xs e = absurd (omega arith)
+
+pub nth_at : {A : Type 0} (i : ℕ) (xs : List A) → 1 ≤ i → slice_get xs (i - 1) ≡ nth i xs
+nth_at zero xs h = absurd (omega arith)
+nth_at (suc i) xs h = let e : suc i - 1 ≡ i = omega arith in ap (slice_get xs) e

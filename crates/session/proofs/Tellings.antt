@@ -1,0 +1,172 @@
+-- What the calls answer after any series of them, in a reader's words.
+use Rattle.std.proofs.Common.{◌≡◌, ℕ, ◌+◌, ◌-◌, ◌*◌, ◌≤◌, Bool, true, false, cond, ◌&&◌, ◌||◌, List, [], ◌∷◌, ◌++◌, length, Some, None as Nothing, Ok, Err, Option, Result, nat_le, refl, sym, ap, ap₂, ◌∙◌, subst, arith}
+use Rattle.std.proofs.lemmas.Bool.{or_right}
+use Rattle.text.specs.Lines.{line_text}
+use Rattle.text.specs.Writing.{over as written_over}
+use Rattle.memory.specs.declared.actions.Action.{Action}
+use Rattle.memory.specs.Bytes.{SeesBytes}
+use Rattle.memory.specs.Machine.{Machine}
+use Rattle.ceiling.specs.declared.moves.Move.{Move}
+use Rattle.ceiling.specs.Programs.{World, next, opening}
+use Rattle.program.specs.Program.{Program, counts_none, is_nothing, kept, lines_text, proper, within}
+use Rattle.worlds.specs.declared.places.Place.{Place}
+use Rattle.worlds.specs.declared.records.Record.{Record}
+use Rattle.worlds.specs.Worlds.{over, record_of}
+use Rattle.runs.specs.declared.questions.Question.{Question}
+use Rattle.runs.specs.declared.verdicts.Verdict.{Verdict}
+use Rattle.runs.specs.declared.verdicts.Verdict.TheVariants.{More, Found, None}
+use Rattle.runs.specs.declared.verdicts.Worked.{Worked}
+use Rattle.runs.specs.Asked.{root, system}
+use Rattle.runs.specs.First.{front}
+use Rattle.runs.specs.Look.{Look}
+use Rattle.runs.specs.Runs.{list, switches_of}
+use Rattle.runs.specs.Searches.{hits, shown}
+use Rattle.runs.proofs.Looks.{look_rises}
+use Rattle.replay.specs.declared.faults.Fault.{Fault}
+use Rattle.replay.specs.declared.faults.Played.{Played}
+use Rattle.replay.specs.Playing.{mark_number, played, record_fields}
+use Rattle.replay.specs.Written.{run_fields, Says}
+use Rattle.replay.proofs.Says.{says}
+use Rattle.session.specs.declared.refusals.Refusal.{Refusal}
+use Rattle.session.specs.declared.refusals.Refusal.TheVariants as refusal
+use Rattle.session.specs.declared.standings.Standing.{Standing}
+use Rattle.session.specs.Contents.{if_found}
+use Rattle.session.specs.Outcomes.{as_run, put_out, stage_by, stand_by}
+use Rattle.session.specs.Recited.{records_of, nth}
+use Rattle.session.specs.Reports.{numbered, report_text, switches_in, verdict_fields}
+use Rattle.session.specs.Series.{Call, Book, blank, held, asked, booked}
+use Rattle.session.specs.Answers.{added, found_run, found_steps, replayed, reported, stepped, stood, text_after, worked}
+use Rattle.session.specs.Spent.{spent}
+use Rattle.session.specs.Words.{OfNothing, OfQuestion, OfTable, Known, ReplaySays, ReportSays, StageSays, StandingSays, StepBy, StepSays, WorkSays, report_of}
+use Rattle.session.proofs.Books.{Sound, sound}
+use Rattle.session.proofs.Knows.{known, spent_is, units_at}
+
+module _ {Config : Type 0} (m : Machine Config) (t : Program) where
+  -- the steps of a run as its written form has them
+  length_records : (w : World Config Place) (r : List Move) → length (records_of m t w r) ≡ length r
+  length_records w [] = refl
+  length_records w (k ∷ ks) = omega (arith, length_records (next m (over t) w k) ks)
+
+  switches_records : (w : World Config Place) (r : List Move) → switches_in (records_of m t w r) ≡ switches_of (system m t) w r
+  switches_records w [] = refl
+  switches_records w (k ∷ ks) =
+      ap (λ (n : ℕ). mark_number (record_of m t w k).switch + n) (switches_records (next m (over t) w k) ks)
+
+  numbered_records : (w : World Config Place) (i : ℕ) (r : List Move) → numbered i (records_of m t w r) ≡ run_fields m t w i r
+  numbered_records w i [] = refl
+  numbered_records w i (k ∷ ks) =
+      ap (λ (fs : List (List ℕ)). record_fields i (record_of m t w k) ∷ fs) (numbered_records (next m (over t) w k) (i + 1) ks)
+
+  report_is : (q : Question) (v : Verdict) (r : List Move) → report_text v (records_of m t (opening m (over t) q.shape) r) ≡ report_of m t q v r
+  report_is q v r =
+      let w = opening m (over t) q.shape in
+      ap₂ (λ (n k : ℕ). line_text (verdict_fields v n k) ++ lines_text (numbered 1 (records_of m t w r))) (length_records w r) (switches_records w r)
+      ∙ ap (λ (fs : List (List ℕ)). line_text (verdict_fields v (length r) (switches_of (system m t) w r)) ++ lines_text fs) (numbered_records w 1 r)
+
+module _ {Config : Type 0} (m : Machine Config) (widest : ℕ) (bounded : (s : Config) (p : ℕ) (a : Action) → m.offer s p a ≤ widest) (h : List Call) where
+  -- what is shown of a question that the calls have put
+  known_after : (t : Program) (q : Question) (E : ℕ) → booked h ≡ asked t q E
+      → let l = shown m t q E in Known m widest t q E (spent m h) l.verdict (front l.left)
+  known_after t q E e =
+      let l = shown m t q E in
+      subst (λ (u : ℕ). Known m widest t q E u l.verdict (front l.left)) (sym (spent_is m h ∙ ap (units_at m) e)) (known m widest bounded t q E)
+
+  of_question : (P : Program → Question → ℕ → Type 0) (t : Program) (q : Question) (E : ℕ) → booked h ≡ asked t q E → P t q E → OfQuestion (booked h) P
+  of_question P t q E e p = subst (λ (b : Book). OfQuestion b P) (sym e) p
+
+  ok_one : {A E : Type 0} {a b : A} → ◌≡◌ {A = Result A E} (Ok a) (Ok b) → a ≡ b
+  ok_one e = cc
+
+  work_asked : (e : ℕ) (w : Worked) (t : Program) (q : Question) (E : ℕ) → booked h ≡ asked t q E
+      → w ≡ added (shown m t q E) (shown m t q (E + e)) → WorkSays m widest h e (Ok w)
+  work_asked e w t q E is same =
+      let l = shown m t q (E + e) in
+      let before : spent m h ≡ (shown m t q E).units = spent_is m h ∙ ap (units_at m) is in
+      let units : l.units ≡ spent m h + w.units =
+      omega (arith, ap (λ (x : Worked). x.units) same, look_rises (hits m t q) E e (list (system m t) (root m t q))) in
+      let verdict : l.verdict ≡ w.verdict = sym (ap (λ (x : Worked). x.verdict) same) in
+      of_question (λ t q E. (r : List Move) × Known m widest t q (E + e) (spent m h + w.units) w.verdict r) t q E is (
+        front l.left,
+        subst (λ (v : Verdict). Known m widest t q (E + e) (spent m h + w.units) v (front l.left)) verdict
+        (subst (λ (u : ℕ). Known m widest t q (E + e) u l.verdict (front l.left)) units (known m widest bounded t q (E + e))),
+      )
+
+  pub work_says : (e : ℕ) (r : Result Worked Refusal) → r ≡ worked m (booked h) e → WorkSays m widest h e r
+  work_says e (Err told) same = tt
+  work_says e (Ok w) same = go (booked h) refl (same)
+    where
+      by : (b : Bool) (t : Program) (q : Question) (E : ℕ) → booked h ≡ asked t q E
+          → Ok w ≡ cond b (Ok (added (shown m t q E) (shown m t q (E + e)))) (Err refusal.Effort) → WorkSays m widest h e (Ok w)
+      by true t q E is s = work_asked e w t q E is (ok_one s)
+      by false t q E is s = cc
+
+      go : (b : Book) → booked h ≡ b → Ok w ≡ worked m b e → WorkSays m widest h e (Ok w)
+      go blank is s = cc
+      go (held t) is s = cc
+      go (asked t q E) is s = by (within 1 1000000 e) t q E is s
+
+  stage_known : (t : Program) (q : Question) (E : ℕ) → booked h ≡ asked t q E → (v : Verdict) (r : List Move) → Known m widest t q E (spent m h) v r
+      → StageSays m widest h (stage_by v) (length (if_found v r))
+  stage_known t q E is More r k = of_question (λ t q E. (r : List Move) × (Known m widest t q E (spent m h) More r × (◌≡◌ {A = ℕ} 0 0))) t q E is (r, (k, refl))
+  stage_known t q E is Found r k = of_question (λ t q E. (s : List Move) × (Known m widest t q E (spent m h) Found s × (length r ≡ length s))) t q E is (r, (k, refl))
+  stage_known t q E is None r k = of_question (λ t q E. (r : List Move) × (Known m widest t q E (spent m h) None r × (◌≡◌ {A = ℕ} 0 0))) t q E is (r, (k, refl))
+
+  pub standing_says : (s : Standing) → s ≡ stood m (booked h) → StandingSays m widest h s
+  standing_says s same = subst (StandingSays m widest h) (sym same) (go (booked h) refl)
+    where
+      go : (b : Book) → booked h ≡ b → StandingSays m widest h (stood m b)
+      go blank is = (subst (λ (b : Book). OfNothing b) (sym is) tt, refl)
+      go (held t) is = (subst (λ (b : Book). OfTable b) (sym is) tt, refl)
+      go (asked t q E) is = let l = shown m t q E in stage_known t q E is l.verdict (front l.left) (known_after t q E is)
+
+  pub step_says : (i : ℕ) (o : Option Record) → o ≡ stepped m (booked h) i → StepSays m widest h i o
+  step_says i o same = go (booked h) refl same
+    where
+      go : (b : Book) → booked h ≡ b → o ≡ stepped m b i → StepBy m widest h b i o
+      go blank is s = s
+      go (held t) is s = s
+      go (asked t q E) is s = let l = shown m t q E in (l.verdict, front l.left, known_after t q E is, s)
+
+  pub report_says : (out new : List ℕ) (r : Result ℕ Refusal) → (r, new) ≡ reported m (booked h) out → ReportSays m widest h out r new
+  report_says out new r same = go (booked h) refl same
+    where
+      whole : (t : Program) (q : Question) (E : ℕ) → booked h ≡ asked t q E → (text : List ℕ) → text ≡ text_after m t q E
+          → ◌≡◌ {A = Result ℕ Refusal × List ℕ} (r, new) (Ok (length text), written_over text out) → ReportSays m widest h out r new
+      whole t q E is text e s =
+          let l = shown m t q E in
+          let v = l.verdict in
+          let x = front l.left in
+          let bytes : text ≡ report_of m t q v (if_found v x) = e ∙ report_is m t q v (if_found v x) in
+          subst (λ (y : Result ℕ Refusal × List ℕ). ReportSays m widest h out y.0 y.1) (sym s)
+          (of_question (λ t q E. (r : List Move) × ((v : Verdict) × Known m widest t q E (spent m h) v r
+            × (length text ≡ length (report_of m t q v (if_found v r))) × (written_over text out ≡ written_over (report_of m t q v (if_found v r)) out)))
+          t q E is (x, (v, known_after t q E is, ap length bytes, ap (λ (z : List ℕ). written_over z out) bytes)))
+
+      kept_as : (told : Refusal) → ◌≡◌ {A = Result ℕ Refusal × List ℕ} (r, new) (Err told, out) → ReportSays m widest h out r new
+      kept_as told s = subst (λ (y : Result ℕ Refusal × List ℕ). ReportSays m widest h out y.0 y.1) (sym s) refl
+
+      by : (b : Bool) (t : Program) (q : Question) (E : ℕ) → booked h ≡ asked t q E → (text : List ℕ) → text ≡ text_after m t q E
+          → ◌≡◌ {A = Result ℕ Refusal × List ℕ} (r, new) (cond b (Ok (length text), written_over text out) (Err (refusal.Short (length text)), out)) → ReportSays m widest h out r new
+      by true t q E is text e s = whole t q E is text e s
+      by false t q E is text e s = kept_as (refusal.Short (length text)) s
+
+      go : (b : Book) → booked h ≡ b → (r, new) ≡ reported m b out → ReportSays m widest h out r new
+      go blank is s = kept_as refusal.ReportUnasked s
+      go (held t) is s = kept_as refusal.ReportUnasked s
+      go (asked t q E) is s = by (nat_le (length (text_after m t q E)) (length out)) t q E is (text_after m t q E) refl s
+
+  module _ (few : widest ≤ 9999) (bytes : SeesBytes m) where
+    pub replay_says : (text : List ℕ) (r : Result Played Refusal) → r ≡ replayed m (booked h) text → ReplaySays m h text r
+    replay_says text r same = subst (ReplaySays m h text) (sym same) (go (booked h) refl (sound h))
+      where
+        keeps : (t : Program) → proper t ≡ true → kept t ≡ true
+        keeps t good = or_right (counts_none t.counts && is_nothing t) (proper t) good
+
+        by : (t : Program) (q : Question) (E : ℕ) → booked h ≡ asked t q E → (x : Result Played Fault) → Says m t q text x → ReplaySays m h text (as_run x)
+        by t q E is (Ok p) s = of_question (λ t q E. Says m t q text (Ok p)) t q E is s
+        by t q E is (Err fault) s = of_question (λ t q E. Says m t q text (Err fault)) t q E is s
+
+        go : (b : Book) → booked h ≡ b → Sound b → ReplaySays m h text (replayed m b text)
+        go blank is good = λ x. subst (λ (b : Book). OfQuestion b (λ t q E. Unit {0})) is x
+        go (held t) is good = λ x. subst (λ (b : Book). OfQuestion b (λ t q E. Unit {0})) is x
+        go (asked t q E) is good = by t q E is (played m t q text) (says m t q (keeps t good.0) widest bounded few bytes text)

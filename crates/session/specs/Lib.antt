@@ -1,0 +1,11 @@
+pub mod Stages
+pub mod Notices
+pub mod Recited
+pub mod Reports
+pub mod Contents
+pub mod Outcomes
+pub mod Series
+pub mod Answers
+pub mod Law
+pub mod Spent
+pub mod Words

@@ -1,0 +1,16 @@
+// Sessions: the calls that load a table, put a question, search for a run and tell it, over any memory.
+
+#![tactic(auto)]
+
+mod acting;
+mod calls;
+mod notices;
+mod reciting;
+pub mod refusals;
+pub mod sessions;
+pub mod standings;
+mod writing;
+
+pub use refusals::Refusal;
+pub use sessions::Session;
+pub use standings::{Stage, Standing};

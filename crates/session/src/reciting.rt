@@ -1,0 +1,42 @@
+ghost use Rattle.std.specs.Prelude.{◌≡◌, ◌≤◌, length};
+ghost use Rattle.ceiling.specs.Programs.{opening};
+ghost use Rattle.program.specs.Tables.{program};
+ghost use Rattle.worlds.specs.Worlds.{over};
+ghost use Rattle.session.specs.Recited.{nth, recited};
+
+use arrayvec::ArrayVec;
+use ceiling::Move;
+use memory::{Memory, Shape};
+use program::Table;
+use worlds::{Record, World};
+
+// The most steps that a run has.
+pub(crate) const MOST_STEPS: usize = 24;
+
+// Makes moves from the start, and tells the steps that they are, as far as they are offered.
+pub(crate) fn recite<M: Memory>(
+    world: &mut World<M>,
+    table: &Table,
+    shape: Shape,
+    moves: &[Move],
+) -> ArrayVec<Record, MOST_STEPS>
+    requires { length moves.now ≤ 24 }
+    ensures { result.items ≡ recited M.machine (program table.now) (opening M.machine (over (program table.now)) shape) moves.now }
+{
+    world.start(shape);
+    let mut records = ArrayVec::new();
+    for next in moves {
+        let Ok(step) = world.make(table, *next) else {
+            return records;
+        };
+        records.push(step);
+    }
+    records
+}
+
+// The i-th of some steps, counted from 1.
+pub(crate) fn pick(records: &[Record], i: usize) -> Option<Record>
+    ensures { result ≡ nth i records.now }
+{
+    records.get(i.checked_sub(1)?).copied()
+}
