@@ -3,3 +3,4 @@ pub mod Leads
 pub mod MessageTables
 pub mod Performed
 pub mod Shapings
+pub mod Ceilings

@@ -1,8 +1,8 @@
 -- What the limits of a shape let through.
-use Rattle.std.proofs.Common.{◌≡◌, ℕ, Bool, true, false, ◌&&◌, T, leb, Some, None, Option, refl, sym, ap, le→leb}
+use Rattle.std.proofs.Common.{◌≡◌, ℕ, Bool, true, false, ◌&&◌, T, leb, Some, None, Option, refl, ap, subst, le→leb}
 use native.Mathlib.Bridge.{le_prop}
 use Rattle.memory.specs.declared.shapes.Shape.{Shape}
-use Rattle.memory.specs.Shapes.{Limits, limited, within, shape_if, shape_by}
+use Rattle.memory.specs.Shapes.{Limits, Shaped, limited, within, shape_if, shape_by}
 
 -- a shape is its three numbers: that they keep the limits has one proof
 some_if : (s : Shape) (b : Bool) (h : T b → Limits s.processes s.variables s.ceiling) → T b
@@ -23,10 +23,6 @@ t_both : (a b : Bool) → T a → T b → T (a && b)
 t_both true b x y = y
 t_both false b x y = x
 
-abbrev ceiling_or : Option Shape → ℕ → ℕ
-ceiling_or (Some s) n = s.ceiling
-ceiling_or None n = n
-
 inside : (p v n : ℕ) → Limits p v n → T (limited p v n)
 inside p v n h =
     t_both (leb 1 p) _ (le→leb 1 p h.0) (t_both (leb p 4) _ (le→leb p 4 h.1) (t_both (leb 1 v) _ (le→leb 1 v h.2)
@@ -45,10 +41,10 @@ shape_there p v n limits = go (limited p v n) (within p v n) (inside p v n limit
     go true h t = (_, refl)
     go false h t = absurd t
 
--- and its ceiling is the last of the three numbers
-pub ceiling_is : (p v n : ℕ) (s : Shape) → shape_by p v n ≡ Some s → s.ceiling ≡ n
-ceiling_is p v n s = go (limited p v n) (within p v n)
+-- and it has these numbers
+pub shaped_is : (p v n : ℕ) (s : Shape) → shape_by p v n ≡ Some s → Shaped p v n (Some s)
+shaped_is p v n s = go (limited p v n) (within p v n)
   where
-    go : (b : Bool) (h : T b → Limits p v n) → shape_if p v n b h ≡ Some s → s.ceiling ≡ n
-    go true h e = sym (ap (λ (o : Option Shape). ceiling_or o n) e)
+    go : (b : Bool) (h : T b → Limits p v n) → shape_if p v n b h ≡ Some s → Shaped p v n (Some s)
+    go true h e = subst (Shaped p v n) e (refl, refl, refl)
     go false h e = cc

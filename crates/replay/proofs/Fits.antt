@@ -21,7 +21,7 @@ use Rattle.program.proofs.Starts.{fits_at}
 use Rattle.worlds.specs.declared.places.Place.{Place}
 use Rattle.worlds.specs.Places.{action_of}
 use Rattle.worlds.specs.Worlds.{over, instruction_in, action_by, moved_by, shown_by, record_of}
-use Rattle.runs.specs.Runs.{IsRun}
+use Rattle.runs.specs.Runs.{IsRun, end_of}
 use Rattle.runs.specs.Asked.{system}
 use Rattle.runs.proofs.Works.{narrow}
 use Rattle.replay.specs.Playing.{mark_number, record_fields}
@@ -107,11 +107,14 @@ module _ {Config : Type 0} (m : Machine Config) (t : Program) where
   acts w p h = standing w p (instruction_in t p (w.places p)) refl h
 
 -- takes of actions in bytes have led from the start to where the memory stands, and all registers hold bytes
-record Sound {Config : Type 0} (m : Machine Config) (shape : Shape) (w : World Config Place) : Type 0 where
-  takes : List Take
-  led : Leads m (m.initial shape) takes w.config
-  small : AllInBytes takes
-  registers : (p : ℕ) → Bytes (w.places p).registers
+pub record Sound {Config : Type 0} (m : Machine Config) (shape : Shape) (w : World Config Place) : Type 0 where
+  pub takes : List Take
+  pub led : Leads m (m.initial shape) takes w.config
+  pub small : AllInBytes takes
+  pub registers : (p : ℕ) → Bytes (w.places p).registers
+
+start_sound : {Config : Type 0} (m : Machine Config) (t : Program) (shape : Shape) → Sound m shape (opening m (over t) shape)
+start_sound m t shape = record { takes = []; led = refl; small = tt; registers = λ p. beginning_small }
 
 -- A move that can be made: what it asks for is in bytes, and so is what it sees; so where it leads is sound again, and
 -- the numbers of its line fit.
@@ -177,5 +180,15 @@ module _ {Config : Type 0} (m : Machine Config) (t : Program) (keeps : kept t �
   pub fits : (r : List Move) → IsRun (system m t) (opening m (over t) shape) r → length r ≤ 24
       → AllByRecursion Small (run_fields m t (opening m (over t) shape) 1 r)
   fits r run short =
-      let start : Sound m shape (opening m (over t) shape) = record { takes = []; led = refl; small = tt; registers = λ p. beginning_small } in
-      lines_small (opening m (over t) shape) 1 r start run (omega arith)
+      lines_small (opening m (over t) shape) 1 r (start_sound m t shape) run (omega arith)
+
+-- where a run from the start of the shape leads
+module _ {Config : Type 0} (m : Machine Config) (t : Program) (keeps : kept t ≡ true) (bytes : SeesBytes m) (shape : Shape) where
+  led_sound : (w : World Config Place) (r : List Move) → Sound m shape w → IsRun (system m t) w r → Sound m shape (end_of (system m t) w r)
+  led_sound w [] sound run = sound
+  led_sound w (k ∷ ks) sound run =
+      let a = acts m t w k.process (omega (arith, run.0)) in
+      led_sound (next m (over t) w k) ks (sound_next m t keeps bytes shape w k sound a run.0) run.1
+
+  pub end_sound : (r : List Move) → IsRun (system m t) (opening m (over t) shape) r → Sound m shape (end_of (system m t) (opening m (over t) shape) r)
+  end_sound r run = led_sound (opening m (over t) shape) r (start_sound m t shape) run

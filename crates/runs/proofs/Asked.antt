@@ -9,6 +9,9 @@ use Rattle.program.specs.Program.{Program, counts_fit, within}
 use Rattle.runs.specs.declared.questions.Question.{Question}
 use Rattle.runs.specs.Asked.{Asks, question_if, question_by, bounds}
 
+some_one : {A : Type 0} {a b : A} → Some a ≡ Some b → a ≡ b
+some_one e = cc
+
 -- the facts of the two are the same
 itself : (q : Question) (b : Bool) (h : T b → (q.steps ≤ 24) × (q.switches ≤ 24)) → b ≡ true
     → question_if q.steps q.switches q.targets b h (Some q.shape) ≡ Some q
@@ -52,3 +55,20 @@ asked_there t n k targets fit low =
     go true h (Some x) s e es = (_, refl)
     go true h None s e es = cc
     go false h o s e es = cc
+
+-- what a question is of, from how it is made
+pub asks_of : (t : Program) (n k : ℕ) (targets : List ℕ) (q : Question) → question_by t n k targets ≡ Some q → Asks t n k targets q
+asks_of t n k targets q = go (nat_le n 24 && nat_le k 24) (bounds n k) (shape_by t.counts.processes t.counts.variables n) refl
+  where
+    go : (b : Bool) (h : T b → (n ≤ 24) × (k ≤ 24)) (o : Option Shape) → shape_by t.counts.processes t.counts.variables n ≡ o
+        → question_if n k targets b h o ≡ Some q → Asks t n k targets q
+    go true h (Some s) is e =
+        let same = some_one e in
+        record {
+          shape = is ∙ ap (λ (x : Question). Some x.shape) same;
+          steps = sym (ap (λ (x : Question). x.steps) same);
+          switches = sym (ap (λ (x : Question). x.switches) same);
+          targets_are = sym (ap (λ (x : Question). x.targets) same);
+        }
+    go true h None is e = cc
+    go false h o is e = cc

@@ -1,17 +1,16 @@
 -- What a series of calls amounts to, one call after another.
-use Rattle.std.proofs.Common.{◌≡◌, ℕ, ◌+◌, ◌≤◌, Bool, true, false, cond, List, [], ◌∷◌, ◌++◌, length, Some, None, Ok, Err, Option, Result, eqb, leb, refl, sym, ap, ◌∙◌, subst, arith}
+use Rattle.std.proofs.Common.{◌≡◌, ℕ, ◌+◌, true, false, List, [], ◌∷◌, ◌++◌, length, Some, None, Ok, Err, Option, Result, leb, refl, sym, subst, arith}
 use Rattle.std.proofs.lemmas.Bool.{and_parts, cond_both, ne_eqb}
 use Rattle.memory.specs.Machine.{Machine}
 use Rattle.program.specs.declared.refusals.Refusal.{Refusal as Unreadable}
-use Rattle.program.specs.declared.rows.Row.{Row}
-use Rattle.program.specs.Program.{Program, counts_fit, ends_fit, is_nothing, proper, rows_fit, labels_of, within}
+use Rattle.program.specs.Program.{Program, counts_fit, is_nothing, proper, rows_fit, labels_of, within}
 use Rattle.program.specs.Reading.{read}
 use Rattle.program.proofs.Texts.{ends_some, read_is}
 use Rattle.runs.specs.declared.questions.Question.{Question}
 use Rattle.runs.specs.declared.questions.Unasked.{Unasked}
 use Rattle.runs.specs.Asked.{judged, question_by}
 use Rattle.session.specs.Contents.{Content}
-use Rattle.session.specs.Series.{Call, Book, load, put, work, standing, step, replay, report, blank, held, asked, load_on, put_by, put_on, work_on, next, from, booked}
+use Rattle.session.specs.Series.{Call, Book, load, put, work, standing, step, replay, report, blank, held, asked, load_on, put_by, next, from, booked}
 use Rattle.session.specs.Law.{Holds, Lawful}
 
 from_more : (b : Book) (h : List Call) (c : Call) → from b (h ++ (c ∷ [])) ≡ next (from b h) c

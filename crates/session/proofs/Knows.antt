@@ -1,33 +1,28 @@
 -- What is known of a question after any series of calls, and the units that works have reported.
-use Rattle.std.proofs.Common.{◌≡◌, ℕ, ◌+◌, ◌-◌, ◌*◌, ◌≤◌, Bool, true, false, cond, ◌&&◌, List, [], ◌∷◌, ◌++◌, length, Some, None as Nothing, Ok, Err, Option, Result, nat_le, refl, sym, ap, ◌∙◌, subst, arith}
+use Rattle.std.proofs.Common.{◌≡◌, ℕ, ◌+◌, ◌≤◌, Bool, true, false, cond, ◌&&◌, List, [], ◌∷◌, Some, None as Nothing, Ok, Err, Option, Result, nat_le, refl, sym, ap, ◌∙◌, arith}
 use Rattle.std.proofs.lemmas.Bool.{and_parts}
 use Rattle.memory.specs.declared.actions.Action.{Action}
 use Rattle.memory.specs.Machine.{Machine}
-use Rattle.ceiling.specs.declared.moves.Move.{Move}
 use Rattle.program.specs.declared.refusals.Refusal.{Refusal as Unreadable}
 use Rattle.program.specs.Program.{Program, counts_fit, is_nothing, proper, within}
 use Rattle.program.specs.Reading.{read}
 use Rattle.runs.specs.declared.questions.Question.{Question}
 use Rattle.runs.specs.declared.questions.Unasked.{Unasked}
 use Rattle.runs.specs.declared.questions.Unasked.TheVariants.{NoTable, Bounds}
-use Rattle.runs.specs.declared.verdicts.Worked.{Worked}
 use Rattle.runs.specs.Asked.{judged, targets_judged, question_by, root, system}
 use Rattle.runs.specs.First.{front}
-use Rattle.runs.specs.Listed.{geometric}
-use Rattle.runs.specs.Look.{Look}
 use Rattle.runs.specs.Runs.{list}
-use Rattle.runs.specs.Searches.{HasList, Tells, hits, shown}
+use Rattle.runs.specs.Searches.{hits, shown}
 use Rattle.runs.proofs.Asked.{asked_there}
 use Rattle.runs.proofs.Looks.{look_few, look_none, look_rises}
 use Rattle.runs.proofs.TheLists.{the_list}
 use Rattle.runs.proofs.Works.{narrow, tells_by}
-use Rattle.session.specs.declared.refusals.Refusal.{Refusal}
 use Rattle.session.specs.declared.refusals.Refusal.TheVariants as refusal
-use Rattle.session.specs.Series.{Call, Book, load, put, work, standing, step, replay, report, blank, held, asked, load_on, put_by, put_on, work_on, next, from, booked}
-use Rattle.session.specs.Answers.{as_table, as_question, opened, worked, added}
+use Rattle.session.specs.Series.{Call, Book, load, put, work, standing, step, replay, report, blank, held, asked, load_on, put_by, next, from, booked}
+use Rattle.session.specs.Answers.{as_table, as_question, added}
 use Rattle.session.specs.Spent.{afresh, reported_units, spends, spent_from, spent}
 use Rattle.session.specs.Words.{Known}
-use Rattle.session.proofs.Books.{Asking, Sound, sound_next}
+use Rattle.session.proofs.Books.{Sound, sound_next}
 
 module _ {Config : Type 0} (m : Machine Config) where
   -- the units that the efforts in all come to

@@ -6,3 +6,4 @@ pub mod Shows
 pub mod Knows
 pub mod Tellings
 pub mod Laws
+pub mod Frees

@@ -1,6 +1,6 @@
 -- What load, put and work do to what a session holds, by what the calls before them amount to.
-use Rattle.std.proofs.Common.{◌≡◌, ℕ, ◌+◌, ◌-◌, ◌≤◌, Bool, true, false, cond, List, [], ◌∷◌, length, Some, None as Nothing, Ok, Err, Option, Result, refl, sym, ap, ap₂, ◌∙◌, subst, arith}
-use Rattle.std.proofs.lemmas.Bool.{cond_both, cond-true, cond-false, cases_Bool}
+use Rattle.std.proofs.Common.{◌≡◌, ℕ, ◌+◌, ◌-◌, Bool, true, false, cond, List, Some, None as Nothing, Ok, Err, Option, Result, refl, sym, ap, ap₂, ◌∙◌, subst, arith}
+use Rattle.std.proofs.lemmas.Bool.{cond-true, cond-false}
 use Rattle.memory.specs.Machine.{Machine}
 use Rattle.program.specs.declared.refusals.Refusal.{Refusal as Unreadable}
 use Rattle.program.specs.Program.{Program, nothing, within}

@@ -1,7 +1,7 @@
 -- The steps that moves are, one after another.
-use Rattle.std.proofs.Common.{◌≡◌, ℕ, zero, suc, ◌-◌, ◌<◌, ◌≤◌, Bool, true, false, List, [], ◌∷◌, ◌++◌, length, Some, None, Option, nat_lt, slice_get, refl, sym, ap, ◌∙◌, append_assoc, append-nil, arith}
+use Rattle.std.proofs.Common.{◌≡◌, ℕ, zero, suc, ◌-◌, ◌≤◌, Bool, true, false, List, [], ◌∷◌, Some, None, Option, nat_lt, slice_get, refl, ap, arith}
 use Rattle.std.specs.List.{AllByRecursion}
-use Rattle.std.proofs.lemmas.Bool.{lt-leb, cases_lt, ltb-true}
+use Rattle.std.proofs.lemmas.Bool.{ltb-true}
 use Rattle.memory.specs.declared.actions.Action.{Action}
 use Rattle.memory.specs.declared.shapes.Shape.{Shape}
 use Rattle.memory.specs.Machine.{Machine}
@@ -15,7 +15,7 @@ use Rattle.runs.specs.declared.searches.Search.{Search}
 use Rattle.runs.specs.Paths.{path}
 use Rattle.runs.proofs.Works.{narrow}
 use Rattle.session.specs.Contents.{if_found, steps_by}
-use Rattle.session.specs.Recited.{records_of, recited, nth, InField}
+use Rattle.session.specs.Recited.{recited, nth, InField}
 
 module _ {Config : Type 0} (m : Machine Config) (t : Program) where
   -- what is told of a move and those after it, by whether it is offered

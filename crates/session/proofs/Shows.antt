@@ -1,10 +1,10 @@
 -- What standing, step, replay and report answer, by what the calls before them amount to.
-use Rattle.std.proofs.Common.{◌≡◌, ℕ, zero, suc, ◌<◌, Bool, true, false, cond, List, [], ◌∷◌, length, Some, None as Nothing, Ok, Err, Option, Result, refl, sym, ap, ap₂, ◌∙◌, subst}
+use Rattle.std.proofs.Common.{◌≡◌, ℕ, zero, suc, Bool, cond, List, [], ◌∷◌, length, Some, None as Nothing, Option, refl, ap, ap₂, ◌∙◌}
 use Rattle.std.proofs.lemmas.Bool.{lt-ltb}
 use Rattle.memory.specs.Machine.{Machine}
 use Rattle.ceiling.specs.declared.moves.Move.{Move}
 use Rattle.ceiling.specs.Programs.{World, next, offers, opening}
-use Rattle.program.specs.Program.{Program, nothing, is_nothing}
+use Rattle.program.specs.Program.{Program}
 use Rattle.worlds.specs.declared.places.Place.{Place}
 use Rattle.worlds.specs.declared.records.Record.{Record}
 use Rattle.worlds.specs.Worlds.{over, record_of}
@@ -18,12 +18,8 @@ use Rattle.runs.specs.First.{front}
 use Rattle.runs.specs.Look.{Look}
 use Rattle.runs.specs.Paths.{path}
 use Rattle.runs.specs.Runs.{IsRun}
-use Rattle.runs.specs.Searches.{Since, pending_at, shown}
-use Rattle.replay.specs.declared.faults.Played.{Played}
-use Rattle.session.specs.declared.refusals.Refusal.{Refusal}
-use Rattle.session.specs.declared.standings.Stage.{Stage}
+use Rattle.runs.specs.Searches.{pending_at, shown}
 use Rattle.session.specs.declared.standings.Stage.TheVariants as stage
-use Rattle.session.specs.declared.standings.Standing.{Standing}
 use Rattle.session.specs.Contents.{Content, if_found, steps_by, steps_in}
 use Rattle.session.specs.Outcomes.{stand_by, stage_by, standing_by, standing_in, stepped_in, replayed_by, replayed_in, reported_by, reported_in, put_out}
 use Rattle.session.specs.Recited.{records_of, recited, nth}

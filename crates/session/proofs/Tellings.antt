@@ -1,5 +1,5 @@
 -- What the calls answer after any series of them, in a reader's words.
-use Rattle.std.proofs.Common.{◌≡◌, ℕ, ◌+◌, ◌-◌, ◌*◌, ◌≤◌, Bool, true, false, cond, ◌&&◌, ◌||◌, List, [], ◌∷◌, ◌++◌, length, Some, None as Nothing, Ok, Err, Option, Result, nat_le, refl, sym, ap, ap₂, ◌∙◌, subst, arith}
+use Rattle.std.proofs.Common.{◌≡◌, ℕ, ◌+◌, ◌≤◌, Bool, true, false, cond, ◌&&◌, List, [], ◌∷◌, ◌++◌, length, Ok, Err, Option, Result, nat_le, refl, sym, ap, ap₂, ◌∙◌, subst, arith}
 use Rattle.std.proofs.lemmas.Bool.{or_right}
 use Rattle.text.specs.Lines.{line_text}
 use Rattle.text.specs.Writing.{over as written_over}
@@ -18,7 +18,6 @@ use Rattle.runs.specs.declared.verdicts.Verdict.TheVariants.{More, Found, None}
 use Rattle.runs.specs.declared.verdicts.Worked.{Worked}
 use Rattle.runs.specs.Asked.{root, system}
 use Rattle.runs.specs.First.{front}
-use Rattle.runs.specs.Look.{Look}
 use Rattle.runs.specs.Runs.{list, switches_of}
 use Rattle.runs.specs.Searches.{hits, shown}
 use Rattle.runs.proofs.Looks.{look_rises}
@@ -31,11 +30,11 @@ use Rattle.session.specs.declared.refusals.Refusal.{Refusal}
 use Rattle.session.specs.declared.refusals.Refusal.TheVariants as refusal
 use Rattle.session.specs.declared.standings.Standing.{Standing}
 use Rattle.session.specs.Contents.{if_found}
-use Rattle.session.specs.Outcomes.{as_run, put_out, stage_by, stand_by}
-use Rattle.session.specs.Recited.{records_of, nth}
+use Rattle.session.specs.Outcomes.{as_run, stage_by}
+use Rattle.session.specs.Recited.{records_of}
 use Rattle.session.specs.Reports.{numbered, report_text, switches_in, verdict_fields}
 use Rattle.session.specs.Series.{Call, Book, blank, held, asked, booked}
-use Rattle.session.specs.Answers.{added, found_run, found_steps, replayed, reported, stepped, stood, text_after, worked}
+use Rattle.session.specs.Answers.{added, replayed, reported, stepped, stood, text_after, worked}
 use Rattle.session.specs.Spent.{spent}
 use Rattle.session.specs.Words.{OfNothing, OfQuestion, OfTable, Known, ReplaySays, ReportSays, StageSays, StandingSays, StepBy, StepSays, WorkSays, report_of}
 use Rattle.session.proofs.Books.{Sound, sound}
@@ -88,7 +87,7 @@ module _ {Config : Type 0} (m : Machine Config) (widest : ℕ) (bounded : (s : C
       of_question (λ t q E. (r : List Move) × Known m widest t q (E + e) (spent m h + w.units) w.verdict r) t q E is (
         front l.left,
         subst (λ (v : Verdict). Known m widest t q (E + e) (spent m h + w.units) v (front l.left)) verdict
-        (subst (λ (u : ℕ). Known m widest t q (E + e) u l.verdict (front l.left)) units (known m widest bounded t q (E + e))),
+            (subst (λ (u : ℕ). Known m widest t q (E + e) u l.verdict (front l.left)) units (known m widest bounded t q (E + e))),
       )
 
   pub work_says : (e : ℕ) (r : Result Worked Refusal) → r ≡ worked m (booked h) e → WorkSays m widest h e r
@@ -139,7 +138,7 @@ module _ {Config : Type 0} (m : Machine Config) (widest : ℕ) (bounded : (s : C
           let bytes : text ≡ report_of m t q v (if_found v x) = e ∙ report_is m t q v (if_found v x) in
           subst (λ (y : Result ℕ Refusal × List ℕ). ReportSays m widest h out y.0 y.1) (sym s)
           (of_question (λ t q E. (r : List Move) × ((v : Verdict) × Known m widest t q E (spent m h) v r
-            × (length text ≡ length (report_of m t q v (if_found v r))) × (written_over text out ≡ written_over (report_of m t q v (if_found v r)) out)))
+          × (length text ≡ length (report_of m t q v (if_found v r))) × (written_over text out ≡ written_over (report_of m t q v (if_found v r)) out)))
           t q E is (x, (v, known_after t q E is, ap length bytes, ap (λ (z : List ℕ). written_over z out) bytes)))
 
       kept_as : (told : Refusal) → ◌≡◌ {A = Result ℕ Refusal × List ℕ} (r, new) (Err told, out) → ReportSays m widest h out r new

@@ -1,5 +1,5 @@
 -- What each call answers, by what the calls before it amount to.
-use Rattle.std.specs.Prelude.{ℕ, ◌+◌, ◌-◌, cond, List, [], Some, None, Ok, Err, Option, Result}
+use Rattle.std.specs.Prelude.{ℕ, ◌+◌, ◌-◌, cond, List, None, Ok, Err, Option, Result}
 use Rattle.memory.specs.Machine.{Machine}
 use Rattle.ceiling.specs.declared.moves.Move.{Move}
 use Rattle.ceiling.specs.Programs.{opening}

@@ -9,3 +9,4 @@ pub mod Answers
 pub mod Law
 pub mod Spent
 pub mod Words
+pub mod Free

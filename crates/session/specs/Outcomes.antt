@@ -1,5 +1,5 @@
 -- What each call answers, and what a session holds then, by what it held before.
-use Rattle.std.specs.Prelude.{◌≡◌, ℕ, cond, true, List, length, Some, None, Ok, Err, Option, Result, nat_le}
+use Rattle.std.specs.Prelude.{◌≡◌, ℕ, cond, List, length, Some, None, Ok, Err, Option, Result, nat_le}
 use Rattle.text.specs.Writing.{over as written_over}
 use Rattle.memory.specs.Machine.{Machine}
 use Rattle.ceiling.specs.declared.moves.Move.{Move}

@@ -5,10 +5,9 @@ use Rattle.text.specs.Lines.{line_text}
 use Rattle.text.specs.Writing.{over as written_over}
 use Rattle.memory.specs.Machine.{Machine}
 use Rattle.ceiling.specs.declared.moves.Move.{Move}
-use Rattle.ceiling.specs.Programs.{World, opening}
+use Rattle.ceiling.specs.Programs.{opening}
 use Rattle.program.specs.Program.{Program, lines_text}
 use Rattle.program.specs.Source.{SaysOf}
-use Rattle.worlds.specs.declared.places.Place.{Place}
 use Rattle.worlds.specs.declared.records.Record.{Record}
 use Rattle.worlds.specs.Worlds.{over}
 use Rattle.runs.specs.declared.questions.Question.{Question}

@@ -78,11 +78,18 @@ impl<M: Memory> Session<M> {
         ensures kept { content self.new ≡ content self.old }
     {
         match self.search {
-            Some(Search {
-                verdict: Verdict::Found,
-                question,
-                run,
-            }) => recite(&mut self.cursor.world, &self.table, question.shape, run.moves()),
+            Some(
+                Search {
+                    verdict: Verdict::Found,
+                    question,
+                    run,
+                },
+            ) => recite(
+                &mut self.cursor.world,
+                &self.table,
+                question.shape,
+                run.moves(),
+            ),
             _ => ArrayVec::new(),
         }
     }

@@ -4,6 +4,7 @@
 
 mod acting;
 mod calls;
+pub mod making;
 mod notices;
 mod reciting;
 pub mod refusals;
@@ -11,6 +12,7 @@ pub mod sessions;
 pub mod standings;
 mod writing;
 
+pub use making::{release_acquire, sequential};
 pub use refusals::Refusal;
 pub use sessions::Session;
 pub use standings::{Stage, Standing};

@@ -1,4 +1,4 @@
-use Rattle.std.proofs.Common.{◌≡◌, ◌+◌, ◌*◌, [], get_or, length, rules, refl, arith}
+use Rattle.std.proofs.Common.{◌*◌, [], get_or, rules, refl, arith}
 use Rattle.std.proofs.ByRecursion.{All-get_or}
 use Rattle.text.proofs.Lines.{small_is_all}
 use Rattle.program.specs.Program.{Six}

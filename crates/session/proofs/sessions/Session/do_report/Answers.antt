@@ -1,11 +1,10 @@
-use Rattle.std.proofs.Common.{◌≡◌, ℕ, List, length, Some, Option, Result, sym, subst, ap, ◌∙◌, rules, arith}
+use Rattle.std.proofs.Common.{◌≡◌, ℕ, List, length, Some, Option, sym, subst, ap, ◌∙◌, rules, arith}
 use Rattle.std.specs.List.{AllByRecursion}
 use Rattle.text.specs.Writing.{over}
 use Rattle.program.specs.Program.{Six, lines_text}
 use Rattle.program.specs.Tables.{program}
 use Rattle.worlds.specs.declared.records.Record.{Record}
 use Rattle.runs.specs.declared.searches.Search.{Search}
-use Rattle.session.specs.declared.refusals.Refusal.{Refusal}
 use Rattle.session.specs.Contents.{content, steps_in}
 use Rattle.session.specs.Outcomes.{put_out, reported_by}
 use Rattle.session.specs.Recited.{InField}

@@ -3,5 +3,5 @@ use Rattle.session.proofs.Laws.{put_lawful}
 use Rattle.session.proofs.sessions.Session.put.Goals as goal
 
 pub returns-clause-law : goal.returns-clause-law
-returns-clause-law g c = 
+returns-clause-law g c =
     put_lawful g.M.Memory.machine (content c.args.self.now) (content c.do_put.new.self) c.args.steps c.args.switches c.args.targets c.do_put.result c.do_put.ensures

@@ -1,0 +1,5 @@
+use Rattle.session.proofs.Frees.{freed}
+use Rattle.session.proofs.making.release_acquire.Goals as goal
+
+pub returns-clause-free : goal.returns-clause-free
+returns-clause-free c = freed
