@@ -13,7 +13,7 @@ use Rattle.session.specs.Contents.{Content}
 use Rattle.session.specs.Series.{Call, Book, load, put, work, standing, step, replay, report, blank, held, asked, load_on, put_by, next, from, booked}
 use Rattle.session.specs.Law.{Holds, Lawful}
 
-from_more : (b : Book) (h : List Call) (c : Call) → from b (h ++ (c ∷ [])) ≡ next (from b h) c
+pub from_more : (b : Book) (h : List Call) (c : Call) → from b (h ++ (c ∷ [])) ≡ next (from b h) c
 from_more b [] c = refl
 from_more b (d ∷ h) c = from_more (next b d) h c
 

@@ -1,6 +1,6 @@
 // What the calls do to what a session holds.
 
-ghost use Rattle.std.specs.Prelude.{◌≡◌, cond, Ok, Err};
+ghost use Rattle.std.specs.Prelude.{◌≡◌, ◌≤◌, cond, length, Ok, Err, IfOk};
 ghost use Rattle.program.specs.Program.{within};
 ghost use Rattle.session.specs.declared.refusals.Refusal.TheVariants as refusal;
 ghost use Rattle.session.specs.Contents.{content, steps_in};
@@ -135,6 +135,7 @@ impl<M: Memory> Session<M> {
 
     pub(crate) fn do_report(&mut self, out: &mut [u8]) -> Result<usize, Refusal>
         ensures value { (result, out.new) ≡ reported_in M.machine (content self.old) out.old }
+        ensures bound { IfOk result (λ n. n ≤ length out.old) }
         ensures kept { content self.new ≡ content self.old }
     {
         let search = self.search.ok_or(Refusal::ReportUnasked)?;

@@ -1,7 +1,7 @@
 // The calls. Each answers and does what it did to the content before, `outcome`; after any series of calls on a session
 // that began new it answers what the series amounts to, `law`; and what that says of the question's runs is `words`.
 
-ghost use Rattle.std.specs.Prelude.{◌≡◌, List};
+ghost use Rattle.std.specs.Prelude.{◌≡◌, ◌≤◌, List, length, IfOk};
 ghost use Rattle.session.specs.Contents.{content};
 ghost use Rattle.session.specs.Outcomes.{loaded_in, PutIn, replayed_in, reported_in, standing_in, stepped_in, WorkedIn};
 ghost use Rattle.session.specs.Series as call;
@@ -77,6 +77,7 @@ impl<M: Memory> Session<M> {
     // Writes a verdict line and the found run to the front of a buffer, and answers how many bytes they are.
     pub fn report(&mut self, out: &mut [u8]) -> Result<usize, Refusal>
         ensures outcome { (result, out.new) ≡ reported_in M.machine (content self.old) out.old }
+        ensures bound { IfOk result (λ n. n ≤ length out.old) }
         ensures kept { content self.new ≡ content self.old }
         ensures law { Lawful M.machine (call.report out.old) (λ b. reported M.machine b out.old) (content self.old) (result, out.new) (content self.new) }
         ensures words { (h : List call.Call) → After M.machine h (content self.old) → ReportSays M.machine M.WIDEST h out.old result out.new }

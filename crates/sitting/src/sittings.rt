@@ -1,0 +1,74 @@
+ghost use Rattle.std.specs.Prelude.{◌≡◌, ◌≤◌, length, IfOk};
+ghost use Rattle.sitting.specs.Outputs.{answered, sat, sat_in, sat_over, Had, Wants};
+
+use super::asking::cut;
+use super::failures::Failure;
+use super::searching::search;
+use super::telling::tell;
+use memory::{Kind, Memory};
+use runs::Wish;
+use session::{Refusal, Session, release_acquire, sequential};
+use std::alloc::Global;
+
+// The least room of a buffer: as many lines as a report can have.
+const LEAST: usize = 625;
+
+// The calls, one after another, up to the first that is refused.
+fn answer<M: Memory>(
+    session: &mut Session<M>,
+    wish: Wish,
+    text: &[u8],
+    out: &mut [u8],
+) -> Result<usize, Refusal>
+    ensures outcome { (result, out.new) ≡ answered M.machine wish text.now out.old }
+    ensures bound { IfOk result (λ n. n ≤ length out.old) }
+{
+    session.load(text)?;
+    session.put(wish.steps, wish.switches, wish.targets)?;
+    search(session);
+    session.report(out)
+}
+
+// A sitting in a session, whatever it held: load, put, works and report. A refusal on the way is written as a line.
+pub fn sit<M: Memory + Drop>(
+    mut session: Session<M>,
+    wish: Wish,
+    text: &[u8],
+    out: &mut [u8],
+) -> Result<usize, Refusal>
+    ensures outcome { (result, out.new) ≡ sat M.machine wish text.now out.old }
+    ensures bound { IfOk result (λ n. n ≤ length out.old) }
+{
+    if out.len() < LEAST {
+        return Err(Refusal::Buffer);
+    }
+    match answer(&mut session, wish, text, out) {
+        Ok(written) => Ok(written),
+        Err(why) => Ok(tell(why, out)),
+    }
+}
+
+// A sitting in a new session over the memory that is wished for.
+fn seat(heap: Global, wish: Wish, text: &[u8], out: &mut [u8]) -> Result<usize, Failure>
+    ensures outcome { Had (Unit {0}) (sat_over wish.memory wish text.now out.old) out.old result out.new }
+    ensures bound { IfOk result (λ n. n ≤ length out.old) }
+{
+    match wish.memory {
+        Kind::Sequential => Ok(sit(sequential(heap)?, wish, text, out)?),
+        Kind::ReleaseAcquire => Ok(sit(release_acquire(heap)?, wish, text, out)?),
+    }
+}
+
+// A sitting of its own, from an input to a buffer.
+pub fn sitting(heap: Global, input: &[u8], out: &mut [u8]) -> Result<usize, Failure>
+    ensures outcome { Had (Wants input.now out.old) (sat_in input.now out.old) out.old result out.new }
+    ensures bound { IfOk result (λ n. n ≤ length out.old) }
+{
+    if out.len() < LEAST {
+        return Err(Failure::Refused(Refusal::Buffer));
+    }
+    match cut(input) {
+        Ok(request) => seat(heap, request.wish, request.text, out),
+        Err(why) => Ok(tell(why, out)),
+    }
+}
