@@ -1,4 +1,4 @@
-use Rattle.std.proofs.Common.{ℕ, ◌+◌, ◌*◌, ◌∙◌, sym, subst, arith}
+use Rattle.std.proofs.Common.{ℕ, ◌+◌, ◌*◌, ◌∙◌, refl, sym, subst, arith}
 use Rattle.program.specs.Tables.{program}
 use Rattle.runs.specs.Searches.{Since}
 use Rattle.searching.proofs.Tallies.{ended, since_few}
@@ -25,4 +25,4 @@ pub returns : goal.returns
 returns g c =
     let i = c.loop-work.invariant in
     ended g.M.Memory.machine (program c.args.table.now) c.args.question c.loop-work.search (c.loop-work._work * 1000000) 1000000000
-    c.loop-work.looked c.verdict.result i.since i.question (omega (arith, c.loop-work-test.false, c.loop-work.auto._work-end)) c.verdict.ensures
+    c.loop-work.looked c.loop-work.search.verdict i.since i.question (omega (arith, c.loop-work-test.false, c.loop-work.auto._work-end)) refl
