@@ -1,11 +1,11 @@
 -- Each call keeps the law of every series of calls.
 use Rattle.std.proofs.Common.{◌≡◌, ℕ, List, Option, Result, sym, ◌∙◌, subst}
 use Rattle.memory.specs.Machine.{Machine}
-use Rattle.worlds.specs.declared.records.Record.{Record}
 use Rattle.runs.specs.declared.verdicts.Worked.{Worked}
 use Rattle.replay.specs.declared.faults.Played.{Played}
 use Rattle.session.specs.declared.refusals.Refusal.{Refusal}
 use Rattle.session.specs.declared.standings.Standing.{Standing}
+use Rattle.session.specs.declared.steps.Step.{Step}
 use Rattle.session.specs.Contents.{Content}
 use Rattle.session.specs.Outcomes.{loaded_in, PutIn, replayed_in, reported_in, standing_in, stepped_in, WorkedIn}
 use Rattle.session.specs.Series as call
@@ -35,7 +35,7 @@ module _ {Config : Type 0} (m : Machine Config) (old new : Content) where
     kept : (b : call.Book) → Holds m b old → Holds m b new
     kept b h = subst (Holds m b) (sym same) h
 
-    pub step_lawful : (i : ℕ) (o : Option Record) → o ≡ stepped_in m old i → Lawful m (call.step i) (λ b. stepped m b i) old o new
+    pub step_lawful : (i : ℕ) (o : Option Step) → o ≡ stepped_in m old i → Lawful m (call.step i) (λ b. stepped m b i) old o new
     step_lawful i o e = lawful m (call.step i) (λ b. stepped m b i) old o new (λ b good h. (kept b h, e ∙ step_law m i old b h))
 
     pub replay_lawful : (text : List ℕ) (r : Result Played Refusal) → r ≡ replayed_in m old text

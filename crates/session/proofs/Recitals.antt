@@ -1,5 +1,5 @@
 -- The steps that moves are, one after another.
-use Rattle.std.proofs.Common.{◌≡◌, ℕ, zero, suc, ◌-◌, ◌≤◌, Bool, true, false, List, [], ◌∷◌, Some, None, Option, nat_lt, slice_get, refl, ap, arith}
+use Rattle.std.proofs.Common.{◌≡◌, ℕ, ◌≤◌, Bool, true, false, List, [], ◌∷◌, Some, None, Option, nat_lt, refl, ap, arith}
 use Rattle.std.specs.List.{AllByRecursion}
 use Rattle.std.proofs.lemmas.Bool.{ltb-true}
 use Rattle.memory.specs.declared.actions.Action.{Action}
@@ -15,7 +15,7 @@ use Rattle.runs.specs.declared.searches.Search.{Search}
 use Rattle.runs.specs.Paths.{path}
 use Rattle.runs.proofs.Works.{narrow}
 use Rattle.session.specs.Contents.{if_found, steps_by}
-use Rattle.session.specs.Recited.{recited, nth, InField}
+use Rattle.session.specs.Recited.{recited, InField}
 
 module _ {Config : Type 0} (m : Machine Config) (t : Program) where
   -- what is told of a move and those after it, by whether it is offered
@@ -44,11 +44,3 @@ module _ {Config : Type 0} (m : Machine Config) (t : Program) where
   steps_small widest few low (Some s) =
       recited_small widest few low (opening m (over t) s.question.shape) (if_found s.verdict (path s.run))
   steps_small widest few low None = tt
-
-pub nth_none : {A : Type 0} (i : ℕ) (xs : List A) → i ≡ 0 → None ≡ nth i xs
-nth_none zero xs e = refl
-nth_none (suc i) xs e = absurd (omega arith)
-
-pub nth_at : {A : Type 0} (i : ℕ) (xs : List A) → 1 ≤ i → slice_get xs (i - 1) ≡ nth i xs
-nth_at zero xs h = absurd (omega arith)
-nth_at (suc i) xs h = let e : suc i - 1 ≡ i = omega arith in ap (slice_get xs) e

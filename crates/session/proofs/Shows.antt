@@ -30,7 +30,7 @@ use Rattle.session.specs.Law.{Holds, Searched}
 use Rattle.session.proofs.Books.{Sound, proper_some}
 use Rattle.session.proofs.Recitals.{told_if}
 
-none_of : {A : Type 0} (i : ℕ) → nth {A = A} i [] ≡ Nothing
+none_of : (i : ℕ) → nth i [] ≡ Nothing
 none_of zero = refl
 none_of (suc i) = refl
 

@@ -10,7 +10,6 @@ use Rattle.ceiling.specs.declared.moves.Move.{Move}
 use Rattle.ceiling.specs.Programs.{World, next, opening}
 use Rattle.program.specs.Program.{Program, counts_none, is_nothing, kept, lines_text, proper, within}
 use Rattle.worlds.specs.declared.places.Place.{Place}
-use Rattle.worlds.specs.declared.records.Record.{Record}
 use Rattle.worlds.specs.Worlds.{over, record_of}
 use Rattle.runs.specs.declared.questions.Question.{Question}
 use Rattle.runs.specs.declared.verdicts.Verdict.{Verdict}
@@ -29,6 +28,7 @@ use Rattle.replay.proofs.Says.{says}
 use Rattle.session.specs.declared.refusals.Refusal.{Refusal}
 use Rattle.session.specs.declared.refusals.Refusal.TheVariants as refusal
 use Rattle.session.specs.declared.standings.Standing.{Standing}
+use Rattle.session.specs.declared.steps.Step.{Step}
 use Rattle.session.specs.Contents.{if_found}
 use Rattle.session.specs.Outcomes.{as_run, stage_by}
 use Rattle.session.specs.Recited.{records_of}
@@ -118,7 +118,7 @@ module _ {Config : Type 0} (m : Machine Config) (widest : ℕ) (bounded : (s : C
       go (held t) is = (subst (λ (b : Book). OfTable b) (sym is) tt, refl)
       go (asked t q E) is = let l = shown m t q E in stage_known t q E is l.verdict (front l.left) (known_after t q E is)
 
-  pub step_says : (i : ℕ) (o : Option Record) → o ≡ stepped m (booked h) i → StepSays m widest h i o
+  pub step_says : (i : ℕ) (o : Option Step) → o ≡ stepped m (booked h) i → StepSays m widest h i o
   step_says i o same = go (booked h) refl same
     where
       go : (b : Book) → booked h ≡ b → o ≡ stepped m b i → StepBy m widest h b i o

@@ -24,6 +24,7 @@ use Rattle.session.specs.declared.standings.Stage.TheVariants as stage
 use Rattle.session.specs.declared.standings.Standing.{Standing}
 use Rattle.session.specs.Contents.{if_found}
 use Rattle.session.specs.Outcomes.{as_run, put_out, stand_by}
+use Rattle.session.specs.declared.steps.Step.{Step}
 use Rattle.session.specs.Recited.{records_of, nth}
 use Rattle.session.specs.Reports.{report_text}
 use Rattle.session.specs.Series.{Book, blank, held, asked}
@@ -67,7 +68,7 @@ module _ {Config : Type 0} (m : Machine Config) where
   stood (held t) = record { stage = stage.Table; steps = 0 }
   stood (asked t q E) = let l = shown m t q E in stand_by l.verdict (front l.left)
 
-  abbrev pub stepped : Book → ℕ → Option Record
+  abbrev pub stepped : Book → ℕ → Option Step
   stepped blank i = None
   stepped (held t) i = None
   stepped (asked t q E) i = nth i (found_steps t q (shown m t q E))

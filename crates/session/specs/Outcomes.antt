@@ -24,6 +24,7 @@ use Rattle.session.specs.declared.standings.Stage.{Stage}
 use Rattle.session.specs.declared.standings.Stage.TheVariants as stage
 use Rattle.session.specs.declared.standings.Standing.{Standing}
 use Rattle.session.specs.Contents.{Content, if_found, steps_in}
+use Rattle.session.specs.declared.steps.Step.{Step}
 use Rattle.session.specs.Recited.{nth}
 use Rattle.session.specs.Reports.{report_text}
 
@@ -78,7 +79,7 @@ module _ {Config : Type 0} (m : Machine Config) where
   WorkedIn c e (Err told) new = (unworked c.search e ≡ Some told) × (new ≡ c)
 
   -- step, counted from 1
-  abbrev pub stepped_in : Content → ℕ → Option Record
+  abbrev pub stepped_in : Content → ℕ → Option Step
   stepped_in c i = nth i (steps_in m c)
 
   -- replay

@@ -1,5 +1,5 @@
 -- The steps that moves are, of a table over a memory.
-use Rattle.std.specs.Prelude.{ℕ, suc, zero, ◌≤◌, true, false, List, [], ◌∷◌, None, Option, nat_lt, slice_get}
+use Rattle.std.specs.Prelude.{ℕ, suc, zero, ◌≤◌, true, false, List, [], ◌∷◌, Some, None, Option, nat_lt, slice_get}
 use Rattle.memory.specs.Machine.{Machine}
 use Rattle.ceiling.specs.declared.moves.Move.{Move}
 use Rattle.ceiling.specs.Programs.{World, next, offers}
@@ -7,6 +7,7 @@ use Rattle.program.specs.Program.{Program}
 use Rattle.worlds.specs.declared.places.Place.{Place}
 use Rattle.worlds.specs.declared.records.Record.{Record}
 use Rattle.worlds.specs.Worlds.{over, record_of}
+use Rattle.session.specs.declared.steps.Step.{Step}
 
 module _ {Config : Type 0} (m : Machine Config) (t : Program) where
   -- the steps of a run from w, one after another
@@ -26,7 +27,13 @@ module _ {Config : Type 0} (m : Machine Config) (t : Program) where
 abbrev pub InField : Record → Type 0
 InField r = r.choice ≤ 9999
 
--- the i-th of a list, counted from 1
-abbrev pub nth : {A : Type 0} → ℕ → List A → Option A
-nth zero xs = None
-nth (suc i) xs = slice_get xs i
+-- a record as step i
+abbrev pub as_step : ℕ → Option Record → Option Step
+as_step i (Some r) =
+    Some (record { step = i; process = r.process; label = r.label; choice = r.choice; value = r.value; switch = r.switch })
+as_step i None = None
+
+-- the i-th of some steps, counted from 1, if there is one
+abbrev pub nth : ℕ → List Record → Option Step
+nth zero rs = None
+nth (suc i) rs = as_step (suc i) (slice_get rs i)

@@ -8,7 +8,6 @@ use Rattle.ceiling.specs.declared.moves.Move.{Move}
 use Rattle.ceiling.specs.Programs.{opening}
 use Rattle.program.specs.Program.{Program, lines_text}
 use Rattle.program.specs.Source.{SaysOf}
-use Rattle.worlds.specs.declared.records.Record.{Record}
 use Rattle.worlds.specs.Worlds.{over}
 use Rattle.runs.specs.declared.questions.Question.{Question}
 use Rattle.runs.specs.declared.verdicts.Verdict.{Verdict}
@@ -26,6 +25,7 @@ use Rattle.session.specs.declared.standings.Stage.{Stage}
 use Rattle.session.specs.declared.standings.Stage.TheVariants as stage
 use Rattle.session.specs.declared.standings.Standing.{Standing}
 use Rattle.session.specs.Contents.{Content, if_found}
+use Rattle.session.specs.declared.steps.Step.{Step}
 use Rattle.session.specs.Recited.{records_of, nth}
 use Rattle.session.specs.Reports.{verdict_fields}
 use Rattle.session.specs.Series.{Call, Book, blank, held, asked, booked}
@@ -100,14 +100,14 @@ module _ {Config : Type 0} (m : Machine Config) where
       StandingSays s = StageSays s.stage s.steps
 
       -- the step of the found run, if there is one; else there is none
-      abbrev pub StepBy : Book → ℕ → Option Record → Type 0
+      abbrev pub StepBy : Book → ℕ → Option Step → Type 0
       StepBy blank i o = o ≡ None
       StepBy (held t) i o = o ≡ None
       StepBy (asked t q E) i o =
           (v : Verdict) × (r : List Move) × Known t q E (spent m h) v r
           × (o ≡ nth i (records_of m t (opening m (over t) q.shape) (if_found v r)))
 
-      abbrev pub StepSays : ℕ → Option Record → Type 0
+      abbrev pub StepSays : ℕ → Option Step → Type 0
       StepSays i o = StepBy (booked h) i o
 
       -- what the buffer held, and what is answered and what it holds then

@@ -10,6 +10,7 @@ use super::reciting::{MOST_STEPS, pick, recite};
 use super::refusals::Refusal;
 use super::sessions::Session;
 use super::standings::{Stage, Standing};
+use super::steps::Step;
 use super::writing::{LINE, lines, write_lines};
 use arrayvec::ArrayVec;
 use memory::Memory;
@@ -117,7 +118,7 @@ impl<M: Memory> Session<M> {
         }
     }
 
-    pub(crate) fn do_step(&mut self, i: usize) -> Option<Record>
+    pub(crate) fn do_step(&mut self, i: usize) -> Option<Step>
         ensures value { result ≡ stepped_in M.machine (content self.old) i }
         ensures kept { content self.new ≡ content self.old }
     {

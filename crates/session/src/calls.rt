@@ -12,10 +12,10 @@ ghost use Rattle.session.specs.Words.{LoadSays, ReplaySays, ReportSays, Standing
 use super::refusals::Refusal;
 use super::sessions::Session;
 use super::standings::Standing;
+use super::steps::Step;
 use memory::Memory;
 use replay::Played;
 use runs::Worked;
-use worlds::Record;
 
 impl<M: Memory> Session<M> {
     // Reads a table, and ends the question.
@@ -54,8 +54,8 @@ impl<M: Memory> Session<M> {
         self.do_standing()
     }
 
-    // The record of a step of the found run, counted from 1, if there is one.
-    pub fn step(&mut self, i: usize) -> Option<Record>
+    // A step of the found run, counted from 1, if there is one.
+    pub fn step(&mut self, i: usize) -> Option<Step>
         ensures outcome { result ≡ stepped_in M.machine (content self.old) i }
         ensures kept { content self.new ≡ content self.old }
         ensures law { Lawful M.machine (call.step i) (λ b. stepped M.machine b i) (content self.old) result (content self.new) }

@@ -10,9 +10,11 @@ mod reciting;
 pub mod refusals;
 pub mod sessions;
 pub mod standings;
+pub mod steps;
 mod writing;
 
 pub use making::{release_acquire, sequential};
 pub use refusals::Refusal;
 pub use sessions::Session;
 pub use standings::{Stage, Standing};
+pub use steps::Step;

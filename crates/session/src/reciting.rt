@@ -4,6 +4,7 @@ ghost use Rattle.program.specs.Tables.{program};
 ghost use Rattle.worlds.specs.Worlds.{over};
 ghost use Rattle.session.specs.Recited.{nth, recited};
 
+use super::steps::Step;
 use arrayvec::ArrayVec;
 use ceiling::Move;
 use memory::{Memory, Shape};
@@ -35,8 +36,16 @@ pub(crate) fn recite<M: Memory>(
 }
 
 // The i-th of some steps, counted from 1.
-pub(crate) fn pick(records: &[Record], i: usize) -> Option<Record>
+pub(crate) fn pick(records: &[Record], i: usize) -> Option<Step>
     ensures { result ≡ nth i records.now }
 {
-    records.get(i.checked_sub(1)?).copied()
+    let record = records.get(i.checked_sub(1)?)?;
+    Some(Step {
+        step: i,
+        process: record.process,
+        label: record.label,
+        choice: record.choice,
+        value: record.value,
+        switch: record.switch,
+    })
 }

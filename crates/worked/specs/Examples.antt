@@ -56,7 +56,7 @@ sb_report = codes "   0   1   8   0   0   0\n" ++ run_text (codes "   7   2   3 
 pub record Reports : Type 0 where
   pub written : (out : List ℕ) → reported memory found_sb out ≡ put_out sb_report out
   pub steps : stood memory found_sb ≡ record { stage = stage.Found; steps = 8 }
-  pub sixth : stepped memory found_sb 6 ≡ Some (record { process = 2; label = 2; choice = 0; value = 0; switch = false })
+  pub sixth : stepped memory found_sb 6 ≡ Some (record { step = 6; process = 2; label = 2; choice = 0; value = 0; switch = false })
   pub ninth : stepped memory found_sb 9 ≡ Nothing
 
 -- that run replayed, as it is and with another line 7
