@@ -1,5 +1,5 @@
 -- What the limits of a shape let through.
-use Rattle.std.proofs.Common.{◌≡◌, ℕ, Bool, true, false, ◌&&◌, T, leb, Some, None, Option, refl, ap, subst, le→leb}
+use Rattle.std.proofs.Common.{◌≡◌, ℕ, Bool, true, false, ◌&&◌, T, leb, Some, refl, ap, subst, le→leb}
 use native.Mathlib.Bridge.{le_prop}
 use Rattle.memory.specs.declared.shapes.Shape.{Shape}
 use Rattle.memory.specs.Shapes.{Limits, Shaped, limited, within, shape_if, shape_by}

@@ -1,5 +1,5 @@
 -- The question that a table is asked is the one that its numbers make.
-use Rattle.std.proofs.Common.{◌≡◌, ℕ, ◌≤◌, Bool, true, false, T, nat_le, ◌&&◌, List, Some, None, Option, refl, sym, ap, ◌∙◌, arith}
+use Rattle.std.proofs.Common.{◌≡◌, ℕ, ◌≤◌, Bool, true, false, T, nat_le, ◌&&◌, List, Some, None, Option, refl, sym, ap, ◌∙◌}
 use Rattle.std.proofs.lemmas.Bool.{and_from, and_parts, le-leb, leb-true}
 use native.Mathlib.Bridge.{le_prop}
 use Rattle.memory.specs.declared.shapes.Shape.{Shape}

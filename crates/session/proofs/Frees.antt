@@ -1,5 +1,5 @@
 -- The ceiling of release-acquire memory loses nothing, whatever calls there were.
-use Rattle.std.proofs.Common.{◌≡◌, ℕ, ◌↔◌, true, ◌&&◌, List, Some, refl, sym, subst}
+use Rattle.std.proofs.Common.{◌≡◌, ℕ, ◌↔◌, true, ◌&&◌, List, Some, refl, sym, ap, subst}
 use Rattle.std.proofs.lemmas.Bool.{or_right}
 use Rattle.memory.specs.Bytes.{SeesBytes}
 use Rattle.memory.specs.Bytes as bytes
@@ -31,6 +31,7 @@ use Rattle.session.specs.Outcomes.{stage_by}
 use Rattle.session.specs.Series.{Book, blank, held, asked, booked}
 use Rattle.session.specs.Free.{Low, Timeless, IfAsked, Freed}
 use Rattle.session.proofs.Books.{Asking, Sound, sound}
+use Rattle.session.proofs.Knows.{found_some}
 
 module _ (t : Program) (q : Question) (good : proper t ≡ true) (asking : Asking t q) where
   asks : Asks t asking.steps asking.switches asking.targets q
@@ -51,21 +52,30 @@ module _ (t : Program) (q : Question) (good : proper t ≡ true) (asking : Askin
   reached : (r : List Move) → Runs r → arrived q (end_of (system memory t) start r) ≡ true → Reached q.shape (over t) q.steps q.switches (meets q.targets)
   reached r w a = (r, w.run, w.moves, w.few_switches, a)
 
+  found_of : (v : Verdict) → stage_by v ≡ stage.Found → v ≡ Found
+  found_of Found e = refl
+  found_of More e = cc
+  found_of None e = cc
+
   abbrev Answer : Type 0
   Answer = Reachable q.shape (over t) q.steps q.switches (meets q.targets)
 
-  by_verdict : (v : Verdict) (x : List Move) → ((v ≡ More → ⊥) → Decided (system memory t) start q.steps q.switches (arrived q) v x)
-      → (stage_by v ≡ stage.Open → ⊥) → (stage_by v ≡ stage.Found) ↔ Answer
-  by_verdict More x d closed = absurd (closed refl)
-  by_verdict Found x d closed =
-      let first = ((d (λ e. cc)).found x).0 (refl, refl) in
-      (λ _. (loses_nothing.answers q.switches (meets q.targets)).0 (reached x first.within first.reaches), λ _. refl)
-  by_verdict None x d closed =
-      let nowhere = (d (λ e. cc)).none.0 refl in (
-        λ e. cc,
-        λ a. let r = (loses_nothing.answers q.switches (meets q.targets)).1 a in
-            absurd (nowhere r.0 (record { run = r.1; moves = r.2; few_switches = r.3 }) r.4),
+  -- a settled answer, by its verdict
+  pub found_free : (v : Verdict) (x : List Move) → ((v ≡ More → ⊥) → Decided (system memory t) start q.steps q.switches (arrived q) v x)
+      → (v ≡ More → ⊥) → (v ≡ Found) ↔ Answer
+  found_free v x d closed =
+      let some = found_some memory t q v x d closed in
+      let free = loses_nothing.answers q.switches (meets q.targets) in (
+        λ e. let s = some.0 e in free.0 (reached s.0 s.1.within s.1.reaches),
+        λ a. let r = free.1 a in
+            some.1 (r.0, record { within = record { run = r.1; moves = r.2; few_switches = r.3 }; reaches = r.4 }),
       )
+
+  by_stage : (v : Verdict) (x : List Move) → ((v ≡ More → ⊥) → Decided (system memory t) start q.steps q.switches (arrived q) v x)
+      → (stage_by v ≡ stage.Open → ⊥) → (stage_by v ≡ stage.Found) ↔ Answer
+  by_stage v x d closed =
+      let free = found_free v x d (λ e. closed (ap stage_by e)) in
+      (λ e. free.0 (found_of v e), λ a. ap stage_by (free.1 a))
 
   keeps : kept t ≡ true
   keeps = or_right (counts_none t.counts && is_nothing t) (proper t) good
@@ -87,7 +97,7 @@ module _ (t : Program) (q : Question) (good : proper t ≡ true) (asking : Askin
   timeless E =
       let l = shown memory t q E in
       let tells = tells_by memory t q E l.units l.verdict (front l.left) refl refl (λ _. refl) in
-      record { settled = by_verdict l.verdict (front l.left) tells.settled; low = run_low }
+      record { settled = by_stage l.verdict (front l.left) tells.settled; low = run_low }
 
 pub freed : Freed
 freed h = go (booked h) (sound h)

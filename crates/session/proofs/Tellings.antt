@@ -56,7 +56,7 @@ module _ {Config : Type 0} (m : Machine Config) (t : Program) where
   numbered_records w i (k ∷ ks) =
       ap (λ (fs : List (List ℕ)). record_fields i (record_of m t w k) ∷ fs) (numbered_records (next m (over t) w k) (i + 1) ks)
 
-  report_is : (q : Question) (v : Verdict) (r : List Move) → report_text v (records_of m t (opening m (over t) q.shape) r) ≡ report_of m t q v r
+  pub report_is : (q : Question) (v : Verdict) (r : List Move) → report_text v (records_of m t (opening m (over t) q.shape) r) ≡ report_of m t q v r
   report_is q v r =
       let w = opening m (over t) q.shape in
       ap₂ (λ (n k : ℕ). line_text (verdict_fields v n k) ++ lines_text (numbered 1 (records_of m t w r))) (length_records w r) (switches_records w r)

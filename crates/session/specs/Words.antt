@@ -1,6 +1,6 @@
 -- What the calls tell after any series of them, in a reader's words: over the relation "is a run within bounds" and the
 -- list of these runs.
-use Rattle.std.specs.Prelude.{◌≡◌, ℕ, ◌+◌, ◌*◌, ◌≤◌, List, ◌++◌, length, None, Ok, Err, Option, Result}
+use Rattle.std.specs.Prelude.{◌≡◌, ℕ, ◌+◌, ◌*◌, ◌≤◌, ◌↔◌, List, ◌++◌, length, None, Ok, Err, Option, Result}
 use Rattle.text.specs.Lines.{line_text}
 use Rattle.text.specs.Writing.{over as written_over}
 use Rattle.memory.specs.Machine.{Machine}
@@ -18,7 +18,7 @@ use Rattle.runs.specs.Listed.{geometric}
 use Rattle.runs.specs.Runs.{switches_of}
 use Rattle.runs.specs.Searches.{HasList, Tells}
 use Rattle.replay.specs.declared.faults.Played.{Played}
-use Rattle.replay.specs.Written.{run_fields, Says}
+use Rattle.replay.specs.Written.{run_fields, Answers, Says}
 use Rattle.session.specs.declared.refusals.Refusal.{Refusal}
 use Rattle.session.specs.declared.refusals.Refusal.TheVariants.{Table, Question as NoQuestion, WorkUnasked, Effort, ReplayUnasked, Run, ReportUnasked, Short, Input, QuestionLine, Buffer}
 use Rattle.session.specs.declared.standings.Stage.{Stage}
@@ -78,6 +78,8 @@ module _ {Config : Type 0} (m : Machine Config) where
       -- of which there is exactly one, with at most 1 + x + .. + x ^ n runs, x being the processes times the widest offer
       pub list : HasList m t widest q
       pub few : U ≤ geometric (t.counts.processes * widest) q.steps
+      -- once settled it is found just if some run within both bounds reaches the targets
+      pub some : (v ≡ verdict.More → ⊥) → (v ≡ verdict.Found) ↔ ((s : List Move) × Answers m t q s)
 
     module _ (h : List Call) where
       -- of the question that is put this holds, with a run

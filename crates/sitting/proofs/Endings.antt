@@ -1,5 +1,5 @@
 -- What the calls of a sitting come to.
-use Rattle.std.proofs.Common.{◌≡◌, ℕ, ◌++◌, List, [], ◌∷◌, Some, None, Ok, Err, Option, Result, refl, sym, ap, ◌∙◌, subst}
+use Rattle.std.proofs.Common.{◌≡◌, ℕ, List, Ok, Err, Result, ap, ◌∙◌}
 use Rattle.memory.specs.Machine.{Machine}
 use Rattle.program.specs.declared.refusals.Refusal.{Refusal as Unreadable}
 use Rattle.program.specs.Program.{Program}
@@ -7,13 +7,11 @@ use Rattle.program.specs.Reading.{read}
 use Rattle.runs.specs.declared.lines.Wish.{Wish}
 use Rattle.session.specs.declared.refusals.Refusal.{Refusal}
 use Rattle.session.specs.Contents.{Content}
-use Rattle.session.specs.Outcomes.{loaded_in, taken, PutIn, reported_in}
+use Rattle.session.specs.Outcomes.{loaded_in, taken}
 use Rattle.session.specs.Series.{blank, booked, load_on}
 use Rattle.session.specs.Answers.{as_table, loaded, opened, reported}
 use Rattle.session.specs.Law.{Holds}
-use Rattle.session.proofs.Loads.{put_law}
-use Rattle.sitting.specs.Outputs.{answered, calls, load_call, put_calls, unless_refused}
-use Rattle.sitting.specs.Searches.{ReportsAfter}
+use Rattle.sitting.specs.Outputs.{answered, calls, load_call, unless_refused}
 
 -- load answers as it would in a new session
 pub load_answers : (old new : Content) (text : List ℕ) (r : Result (Unit {0}) Refusal) → (r, new) ≡ loaded_in old text → r ≡ loaded blank text

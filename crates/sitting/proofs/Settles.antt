@@ -1,5 +1,5 @@
 -- Works after an answer is settled change nothing that a report tells.
-use Rattle.std.proofs.Common.{◌≡◌, ℕ, zero, suc, ◌+◌, ◌-◌, ◌<◌, ◌≤◌, Bool, true, false, cond, not, List, [], ◌∷◌, ◌++◌, Ok, Err, Result, refl, sym, ap, ap₂, ◌∙◌, subst, arith}
+use Rattle.std.proofs.Common.{◌≡◌, ℕ, zero, suc, ◌+◌, ◌-◌, ◌<◌, Bool, true, false, not, List, Result, refl, sym, ap, ap₂, ◌∙◌, subst, arith}
 use Rattle.std.proofs.lemmas.Bool.{cond_both}
 use Rattle.memory.specs.Machine.{Machine}
 use Rattle.ceiling.specs.declared.moves.Move.{Move}
@@ -18,10 +18,10 @@ use Rattle.runs.specs.Searches.{hits, shown}
 use Rattle.runs.proofs.Looks.{look_add, then}
 use Rattle.session.specs.declared.refusals.Refusal.{Refusal}
 use Rattle.session.specs.Contents.{Content, if_found}
-use Rattle.session.specs.Outcomes.{put_out, reported_in, WorkedIn}
+use Rattle.session.specs.Outcomes.{put_out, WorkedIn}
 use Rattle.session.specs.Recited.{records_of}
 use Rattle.session.specs.Reports.{report_text}
-use Rattle.session.specs.Series.{Call, Book, work, blank, held, asked, next, from, work_on}
+use Rattle.session.specs.Series.{Book, work, blank, held, asked, from, work_on}
 use Rattle.session.specs.Answers.{reported, worked}
 use Rattle.session.specs.Law.{Holds}
 use Rattle.session.proofs.Books.{from_more}
@@ -30,11 +30,11 @@ use Rattle.session.proofs.Shows.{report_law}
 use Rattle.sitting.specs.Outputs.{works}
 use Rattle.sitting.specs.Searches.{is_open, is_settled, ReportsAfter}
 
-works_more : (b : Book) (n : ℕ) → from b (works (suc n)) ≡ work_on (from b (works n)) 1000000
+pub works_more : (b : Book) (n : ℕ) → from b (works (suc n)) ≡ work_on (from b (works n)) 1000000
 unfolding works
 works_more b n = from_more b (works n) (work 1000000)
 
-works_none : (b : Book) → b ≡ from b (works 0)
+pub works_none : (b : Book) → b ≡ from b (works 0)
 unfolding works
 works_none b = refl
 

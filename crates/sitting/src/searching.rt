@@ -10,6 +10,7 @@ use session::{Refusal, Session};
 
 // The most works, and the effort of each.
 const MOST_WORKS: u32 = 1000;
+
 const EFFORT: u32 = 1_000_000;
 
 // Whether no further work will tell more.

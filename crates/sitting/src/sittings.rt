@@ -1,4 +1,5 @@
 ghost use Rattle.std.specs.Prelude.{◌≡◌, ◌≤◌, length, IfOk};
+ghost use Rattle.sitting.specs.Sits.{SeatSays, Sits, SittingSays};
 ghost use Rattle.sitting.specs.Outputs.{answered, sat, sat_in, sat_over, Had, Wants};
 
 use super::asking::cut;
@@ -29,9 +30,9 @@ fn answer<M: Memory>(
     session.report(out)
 }
 
-// A sitting in a session, whatever it held: load, put, works and report. A refusal on the way is written as a line.
-pub fn sit<M: Memory + Drop>(
-    mut session: Session<M>,
+// The same, where a refusal on the way is written as a line.
+fn write<M: Memory>(
+    session: &mut Session<M>,
     wish: Wish,
     text: &[u8],
     out: &mut [u8],
@@ -42,16 +43,31 @@ pub fn sit<M: Memory + Drop>(
     if out.len() < LEAST {
         return Err(Refusal::Buffer);
     }
-    match answer(&mut session, wish, text, out) {
+    match answer(session, wish, text, out) {
         Ok(written) => Ok(written),
         Err(why) => Ok(tell(why, out)),
     }
+}
+
+// A sitting in a session, whatever it held: load, put, works and report. It answers how many bytes it wrote.
+pub fn sit<M: Memory + Drop>(
+    mut session: Session<M>,
+    wish: Wish,
+    text: &[u8],
+    out: &mut [u8],
+) -> Result<usize, Refusal>
+    ensures outcome { (result, out.new) ≡ sat M.machine wish text.now out.old }
+    ensures bound { IfOk result (λ n. n ≤ length out.old) }
+    ensures words { Sits M.machine M.WIDEST wish text.now out.old result out.new }
+{
+    write(&mut session, wish, text, out)
 }
 
 // A sitting in a new session over the memory that is wished for.
 fn seat(heap: Global, wish: Wish, text: &[u8], out: &mut [u8]) -> Result<usize, Failure>
     ensures outcome { Had (Unit {0}) (sat_over wish.memory wish text.now out.old) out.old result out.new }
     ensures bound { IfOk result (λ n. n ≤ length out.old) }
+    ensures words { SeatSays wish text.now out.old result out.new }
 {
     match wish.memory {
         Kind::Sequential => Ok(sit(sequential(heap)?, wish, text, out)?),
@@ -59,10 +75,11 @@ fn seat(heap: Global, wish: Wish, text: &[u8], out: &mut [u8]) -> Result<usize, 
     }
 }
 
-// A sitting of its own, from an input to a buffer.
+// A sitting of its own, from an input to a buffer. It answers how many bytes it wrote.
 pub fn sitting(heap: Global, input: &[u8], out: &mut [u8]) -> Result<usize, Failure>
     ensures outcome { Had (Wants input.now out.old) (sat_in input.now out.old) out.old result out.new }
     ensures bound { IfOk result (λ n. n ≤ length out.old) }
+    ensures words { SittingSays input.now out.old result out.new }
 {
     if out.len() < LEAST {
         return Err(Failure::Refused(Refusal::Buffer));

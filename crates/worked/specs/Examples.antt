@@ -13,7 +13,7 @@ use Rattle.session.specs.declared.standings.Stage.TheVariants as stage
 use Rattle.session.specs.Outcomes.{put_out}
 use Rattle.session.specs.Answers.{opened, replayed, reported, stepped, stood, worked}
 use Rattle.session.specs.Notices.{notice}
-use Rattle.session.specs.Series.{Call, Book, load, put, work, booked, next}
+use Rattle.session.specs.Series.{Book, load, put, work, booked, next}
 use Rattle.worked.specs.Tables.{store_buffering_text, store_buffering, message_passing_text, message_passing, run_text}
 
 abbrev four : ℕ → ℕ → List ℕ

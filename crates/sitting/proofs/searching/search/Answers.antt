@@ -1,4 +1,4 @@
-use Rattle.std.proofs.Common.{◌≡◌, sym, ◌∙◌, rules, arith}
+use Rattle.std.proofs.Common.{sym, ◌∙◌, arith}
 use Rattle.session.specs.Contents.{content}
 use Rattle.sitting.proofs.Settles.{early, late, none_yet, one_more}
 use Rattle.sitting.proofs.searching.search.Goals as goal

@@ -1,11 +1,10 @@
-use Rattle.std.proofs.Common.{◌≡◌, ℕ, List, Ok, Err, Result, sym, ap, ◌∙◌, rules}
+use Rattle.std.proofs.Common.{◌≡◌, ℕ, Ok, Err, Result, ap, ◌∙◌, rules}
 use Rattle.session.specs.declared.refusals.Refusal.{Refusal}
 use Rattle.session.specs.Contents.{content}
-use Rattle.session.specs.Answers.{loaded, opened}
-use Rattle.session.specs.Series.{blank, booked}
+use Rattle.session.specs.Series.{booked}
 use Rattle.session.proofs.Loads.{put_law}
-use Rattle.sitting.specs.Outputs.{answered, load_call, put_calls}
-use Rattle.sitting.proofs.Endings.{answers_last, load_answers, load_holds, not_loaded, not_opened}
+use Rattle.sitting.specs.Outputs.{load_call, put_calls}
+use Rattle.sitting.proofs.Endings.{answers_last, load_answers, load_holds, not_opened}
 use Rattle.sitting.proofs.sittings.answer.Goals as goal
 
 pub returns-in_err-put-clause-outcome : goal.returns-in_err-put-clause-outcome

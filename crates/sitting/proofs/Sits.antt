@@ -1,0 +1,170 @@
+-- A sitting's report, in a reader's words.
+use Rattle.std.proofs.Common.{◌≡◌, ℕ, zero, suc, ◌+◌, ◌*◌, ◌≤◌, Bool, true, false, cond, List, [], ◌∷◌, length, Some, Ok, Err, Result, nat_le, refl, sym, ap, ◌∙◌, arith}
+use Rattle.std.proofs.lemmas.Bool.{cond-true, le-leb, leb-true}
+use Rattle.std.proofs.lemmas.List.{length-append}
+use Rattle.text.specs.Lines.{line_text}
+use Rattle.text.specs.Writing.{over as written_over}
+use Rattle.text.proofs.Lines.{length_line}
+use Rattle.memory.specs.declared.actions.Action.{Action}
+use Rattle.memory.specs.Machine.{Machine}
+use Rattle.ceiling.specs.declared.moves.Move.{Move}
+use Rattle.ceiling.specs.Ceiling.{memory as weak}
+use Rattle.ceiling.specs.Programs.{World, next, opening}
+use Rattle.program.specs.declared.refusals.Refusal.{Refusal as Unreadable}
+use Rattle.program.specs.Program.{Program, lines_text, proper}
+use Rattle.program.proofs.Texts.{read_is}
+use Rattle.worlds.specs.declared.places.Place.{Place}
+use Rattle.worlds.specs.Worlds.{over, record_of}
+use Rattle.runs.specs.declared.lines.Wish.{Wish}
+use Rattle.runs.specs.declared.questions.Question.{Question}
+use Rattle.runs.specs.declared.verdicts.Verdict.{Verdict}
+use Rattle.runs.specs.declared.verdicts.Verdict.TheVariants.{More, Found, None}
+use Rattle.runs.specs.declared.questions.Unasked.{Unasked}
+use Rattle.runs.specs.Asked.{question_by, system}
+use Rattle.runs.specs.First.{front}
+use Rattle.runs.specs.Runs.{switches_of}
+use Rattle.runs.specs.Searches.{shown}
+use Rattle.runs.proofs.Asked.{asked_by, asks_of}
+use Rattle.replay.specs.Playing.{record_fields}
+use Rattle.replay.specs.Written.{run_fields}
+use Rattle.session.specs.declared.refusals.Refusal.{Refusal}
+use Rattle.session.specs.declared.refusals.Refusal.TheVariants as refusal
+use Rattle.session.specs.Contents.{if_found}
+use Rattle.session.specs.Outcomes.{put_out}
+use Rattle.session.specs.Reports.{verdict_fields}
+use Rattle.session.specs.Series.{Book, blank, held, asked, booked, from, load_on, put_by, put_on, work_on}
+use Rattle.session.specs.Answers.{as_question, as_table, opened, reported}
+use Rattle.session.specs.Words.{Known, report_of}
+use Rattle.session.proofs.Books.{Asking}
+use Rattle.session.proofs.Frees.{found_free}
+use Rattle.session.proofs.Knows.{asked_some, known}
+use Rattle.session.proofs.Tellings.{report_is}
+use Rattle.sitting.specs.Outputs.{answered, calls, in_a_line, load_call, put_calls, sat, unless_refused, works}
+use Rattle.sitting.specs.Sits.{Accepts, Reports, Sits, Weakly}
+use Rattle.sitting.proofs.Settles.{works_more, works_none}
+
+ok_one : {A E : Type 0} {a b : A} → ◌≡◌ {A = Result A E} (Ok a) (Ok b) → a ≡ b
+ok_one e = cc
+
+module _ {Config : Type 0} (m : Machine Config) (t : Program) where
+  length_run : (w : World Config Place) (i : ℕ) (r : List Move) → length (lines_text (run_fields m t w i r)) ≡ 25 * length r
+  length_run w i [] = refl
+  length_run w i (k ∷ ks) =
+      length-append (line_text (record_fields i (record_of m t w k))) (lines_text (run_fields m t (next m (over t) w k) (i + 1) ks))
+      ∙ omega (arith, length_line (record_fields i (record_of m t w k)), length_run (next m (over t) w k) (i + 1) ks)
+
+  length_report : (q : Question) (v : Verdict) (r : List Move) → length (report_of m t q v r) ≡ 25 * (1 + length r)
+  length_report q v r =
+      let w = opening m (over t) q.shape in
+      let first = verdict_fields v (length r) (switches_of (system m t) w r) in
+      length-append (line_text first) (lines_text (run_fields m t w 1 r)) ∙ omega (arith, length_line first, length_run w 1 r)
+
+-- a thousand works add a million each
+works_asked : (t : Program) (q : Question) (E n : ℕ) → from (asked t q E) (works n) ≡ asked t q (E + 1000000 * n)
+works_asked t q E zero = let e : E ≡ E + 1000000 * 0 = omega arith in sym (works_none (asked t q E)) ∙ ap (asked t q) e
+works_asked t q E (suc n) =
+    let e : E + 1000000 * n + 1000000 ≡ E + 1000000 * suc n = omega arith in
+    works_more (asked t q E) n ∙ ap (λ (b : Book). work_on b 1000000) (works_asked t q E n) ∙ ap (asked t q) e
+
+module _ {Config : Type 0} (m : Machine Config) (widest : ℕ) (bounded : (s : Config) (p : ℕ) (a : Action) → m.offer s p a ≤ widest) where
+  -- the found run is one within bounds
+  few_steps : (t : Program) (q : Question) (E U : ℕ) (v : Verdict) (x : List Move) → Known m widest t q E U v x → length (if_found v x) ≤ 24
+  few_steps t q E U Found x k =
+      let first = ((k.tells.settled (λ e. cc)).found x).0 (refl, refl) in
+      omega (arith, first.within.moves, q.short)
+  few_steps t q E U More x k = omega arith
+  few_steps t q E U None x k = omega arith
+
+  -- the report of what any effort shows, which has room in a buffer of 625 bytes
+  abbrev pub told : Program → Question → ℕ → List ℕ
+  told t q E = let l = shown m t q E in report_of m t q l.verdict (if_found l.verdict (front l.left))
+
+  module _ (t : Program) (q : Question) (E : ℕ) (out : List ℕ) (room : 625 ≤ length out) where
+    short : length (told t q E) ≤ length out
+    short =
+        let l = shown m t q E in
+        let r = if_found l.verdict (front l.left) in
+        omega (arith, few_steps t q E l.units l.verdict (front l.left) (known m widest bounded t q E), length_report m t q l.verdict r)
+
+    pub fits : reported m (asked t q E) out ≡ (Ok (length (told t q E)), written_over (told t q E) out)
+    fits =
+        let l = shown m t q E in
+        ap (λ (z : List ℕ). put_out z out) (report_is m t q l.verdict (if_found l.verdict (front l.left)))
+        ∙ cond-true (nat_le (length (told t q E)) (length out)) (Ok (length (told t q E)), written_over (told t q E) out)
+        (Err (refusal.Short (length (told t q E))), out) (le-leb (length (told t q E)) (length out) short)
+
+  module _ (w : Wish) (text out : List ℕ) (t : Program) (a : Accepts w text t) (E : ℕ) (all : 0 + 1000000 * 1000 ≡ E) where
+    good : proper t ≡ true
+    good = (read_is text t a.table).0
+
+    abbrev there : (q : Question) × (question_by t w.steps w.switches w.targets ≡ Some q)
+    there = asked_some m t w.steps w.switches w.targets good a.question
+
+    loads : booked (load_call text) ≡ held t
+    loads = ap (load_on blank) a.table
+
+    puts : (q : Question) → question_by t w.steps w.switches w.targets ≡ Some q → booked (put_calls w text) ≡ asked t q 0
+    puts q is =
+        ap (λ (b : Book). put_on b w.steps w.switches w.targets) loads
+        ∙ ap (λ (r : Result (Unit {0}) Unasked). put_by (held t) t r (question_by t w.steps w.switches w.targets)) a.question
+        ∙ ap (put_by (held t) t (Ok tt)) is
+
+    books : (q : Question) → question_by t w.steps w.switches w.targets ≡ Some q → booked (calls w text) ≡ asked t q E
+    books q is = ap (λ (b : Book). from b (works 1000)) (puts q is) ∙ works_asked t q 0 1000 ∙ ap (asked t q) all
+
+    not_refused : answered m w text out ≡ reported m (booked (calls w text)) out
+    not_refused =
+        ap (λ (r : Result Program Unreadable). unless_refused (as_table r) (unless_refused (opened (booked (load_call text)) w.steps w.switches w.targets) (reported m (booked (calls w text)) out) out) out) a.table
+        ∙ ap (λ (b : Book). unless_refused (opened b w.steps w.switches w.targets) (reported m (booked (calls w text)) out) out) loads
+        ∙ ap (λ (r : Result (Unit {0}) Unasked). unless_refused (as_question r) (reported m (booked (calls w text)) out) out) a.question
+
+    -- what is answered and held, by what the efforts in all show
+    pub told_all : (n : ℕ) (new : List ℕ) (b : Bool) → nat_le 625 (length out) ≡ b
+        → ◌≡◌ {A = Result ℕ Refusal × List ℕ} (Ok n, new) (cond b (in_a_line m (answered m w text out)) (Err refusal.Buffer, out))
+        → (q : Question) → question_by t w.steps w.switches w.targets ≡ Some q
+        → (n ≡ length (told t q E)) × (new ≡ written_over (told t q E) out)
+    told_all n new true room e q is =
+        let whole = fits t q E out (leb-true 625 (length out) room) in
+        let same : ◌≡◌ {A = Result ℕ Refusal × List ℕ} (Ok n, new) (Ok (length (told t q E)), written_over (told t q E) out) =
+        e ∙ ap (in_a_line m) (not_refused ∙ ap (λ (b : Book). reported m b out) (books q is) ∙ whole) in
+        (ok_one (ap (λ (y : Result ℕ Refusal × List ℕ). y.0) same), ap (λ (y : Result ℕ Refusal × List ℕ). y.1) same)
+    told_all n new false room e q is = let no = ap (λ (y : Result ℕ Refusal × List ℕ). y.0) e in cc
+
+  reports : (w : Wish) (text out : List ℕ) (t : Program) (a : Accepts w text t) (n : ℕ) (new : List ℕ) → (Ok n, new) ≡ sat m w text out
+      → Reports m widest w t out n new
+  reports w text out t a n new e =
+      let q = there w text out t a 1000000000 refl in
+      let both = told_all w text out t a 1000000000 refl n new (nat_le 625 (length out)) refl e q.0 q.1 in
+      let l = shown m t q.0 1000000000 in
+      record {
+        asked = q.0;
+        asks = asks_of t w.steps w.switches w.targets q.0 q.1;
+        units = l.units;
+        verdict = l.verdict;
+        run = front l.left;
+        known = known m widest bounded t q.0 1000000000;
+        bytes = both.0;
+        written = both.1;
+      }
+
+  pub sits : (w : Wish) (text out : List ℕ) (r : Result ℕ Refusal) (new : List ℕ) → (r, new) ≡ sat m w text out → Sits m widest w text out r new
+  sits w text out (Ok n) new e = λ t a. reports w text out t a n new e
+  sits w text out (Err why) new e = kept (nat_le 625 (length out)) (answered m w text out) e
+    where
+      kept : (b : Bool) (x : Result ℕ Refusal × List ℕ)
+          → ◌≡◌ {A = Result ℕ Refusal × List ℕ} (Err why, new) (cond b (in_a_line m x) (Err refusal.Buffer, out)) → new ≡ out
+      kept true (Ok k, z) e = let no = ap (λ (y : Result ℕ Refusal × List ℕ). y.0) e in cc
+      kept true (Err f, z) e = let no = ap (λ (y : Result ℕ Refusal × List ℕ). y.0) e in cc
+      kept false x e = ap (λ (y : Result ℕ Refusal × List ℕ). y.1) e
+
+-- over release-acquire memory a settled verdict holds for timestamps of any size
+pub weakly : (w : Wish) (text : List ℕ) (t : Program) (out : List ℕ) (n : ℕ) (new : List ℕ) → Accepts w text t
+    → Reports weak 25 w t out n new → Weakly w t out n new
+weakly w text t out n new a r =
+    let asking : Asking t r.asked = record {
+      steps = w.steps;
+      switches = w.switches;
+      targets = w.targets;
+      is = asked_by t w.steps w.switches w.targets r.asked r.asks;
+    } in
+    record { reports = r; free = found_free t r.asked (read_is text t a.table).0 asking r.verdict r.run r.known.tells.settled }
