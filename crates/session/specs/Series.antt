@@ -35,7 +35,8 @@ abbrev pub load_on : Book → Result Program Unreadable → Book
 load_on b (Ok t) = held t
 load_on b (Err why) = b
 
--- an accepted put sets the question, with no effort
+-- An accepted put sets the question, with no effort. A table that was read has a shape for every such question, so that
+-- there is none does not occur.
 abbrev pub put_by : Book → Program → Result (Unit {0}) Unasked → Option Question → Book
 put_by b t (Ok u) (Some q) = asked t q 0
 put_by b t (Ok u) None = b

@@ -1,4 +1,5 @@
-// What the calls do to what a session holds.
+// What the calls do to what a session holds. They stand apart from the calls, whose laws are proved from what is done,
+// wherever that returns.
 
 ghost use Rattle.std.specs.Prelude.{◌≡◌, ◌≤◌, cond, length, Ok, Err, IfOk};
 ghost use Rattle.program.specs.Program.{within};
@@ -98,24 +99,15 @@ impl<M: Memory> Session<M> {
     pub(crate) fn do_standing(&self) -> Standing
         ensures { result ≡ standing_in (content self.now) }
     {
-        match self.search {
-            Some(search) => Standing {
-                stage: stage(search.verdict),
-                steps: if search.verdict == Verdict::Found {
-                    search.run.moves().len()
-                } else {
-                    0
-                },
-            },
-            None => Standing {
-                stage: if self.table.is_empty() {
-                    Stage::New
-                } else {
-                    Stage::Table
-                },
-                steps: 0,
-            },
-        }
+        let (stage, steps) = match self.search {
+            Some(search) if search.verdict == Verdict::Found => {
+                (Stage::Found, search.run.moves().len())
+            }
+            Some(search) => (stage(search.verdict), 0),
+            None if self.table.is_empty() => (Stage::New, 0),
+            None => (Stage::Table, 0),
+        };
+        Standing { stage, steps }
     }
 
     pub(crate) fn do_step(&mut self, i: usize) -> Option<Step>
