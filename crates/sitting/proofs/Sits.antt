@@ -60,7 +60,7 @@ module _ {Config : Type 0} (m : Machine Config) (t : Program) where
       length-append (line_text first) (lines_text (run_fields m t w 1 r)) ∙ omega (arith, length_line first, length_run w 1 r)
 
 -- a thousand works add a million each
-works_asked : (t : Program) (q : Question) (E n : ℕ) → from (asked t q E) (works n) ≡ asked t q (E + 1000000 * n)
+pub works_asked : (t : Program) (q : Question) (E n : ℕ) → from (asked t q E) (works n) ≡ asked t q (E + 1000000 * n)
 works_asked t q E zero = let e : E ≡ E + 1000000 * 0 = omega arith in sym (works_none (asked t q E)) ∙ ap (asked t q) e
 works_asked t q E (suc n) =
     let e : E + 1000000 * n + 1000000 ≡ E + 1000000 * suc n = omega arith in

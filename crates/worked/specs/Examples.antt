@@ -1,5 +1,6 @@
 -- What the calls answer for two litmus tables over release-acquire memory, one after another, in a session that began new.
-use Rattle.std.specs.Prelude.{◌≡◌, ℕ, false, List, [], ◌∷◌, ◌++◌, Some, None as Nothing, Ok, Err, Result, codes}
+use Rattle.std.specs.Prelude.{◌≡◌, ℕ, false, List, [], ◌∷◌, ◌++◌, Some, None as Nothing, Ok, Err, Result, codes, ◌≤◌, length}
+use Rattle.text.specs.Writing.{over}
 use Rattle.ceiling.specs.Ceiling.{memory}
 use Rattle.program.specs.Reading.{read}
 use Rattle.runs.specs.declared.questions.Unasked.TheVariants.{Bounds}
@@ -14,9 +15,10 @@ use Rattle.session.specs.Outcomes.{put_out}
 use Rattle.session.specs.Answers.{opened, replayed, reported, stepped, stood, worked}
 use Rattle.session.specs.Notices.{notice}
 use Rattle.session.specs.Series.{Book, load, put, work, booked, next}
+use Rattle.sitting.specs.Outputs.{sat_in}
 use Rattle.worked.specs.Tables.{store_buffering_text, store_buffering, message_passing_text, message_passing, run_text}
 
-abbrev four : ℕ → ℕ → List ℕ
+abbrev pub four : ℕ → ℕ → List ℕ
 four one two = one ∷ (two ∷ (0 ∷ (0 ∷ [])))
 
 -- a table is loaded and a question put
@@ -27,7 +29,7 @@ put_to text n k one two = booked (load text ∷ (put n k (four one two) ∷ []))
 abbrev units : ℕ → Verdict → Result Worked Refusal
 units u v = Ok (record { units = u; verdict = v })
 
-abbrev asked_sb : Book
+abbrev pub asked_sb : Book
 asked_sb = put_to store_buffering_text 8 0 5 5
 
 abbrev worked_on : Book → ℕ → Book
@@ -50,7 +52,7 @@ pub record Efforts : Type 0 where
   pub fourth : worked memory found_sb 5 ≡ units 0 Found
 
 -- what a report writes then, over any buffer that has room for it
-abbrev sb_report : List ℕ
+abbrev pub sb_report : List ℕ
 sb_report = codes "   0   1   8   0   0   0\n" ++ run_text (codes "   7   2   3   0   0   0\n")
 
 pub record Reports : Type 0 where
@@ -58,6 +60,13 @@ pub record Reports : Type 0 where
   pub steps : stood memory found_sb ≡ record { stage = stage.Found; steps = 8 }
   pub sixth : stepped memory found_sb 6 ≡ Some (record { step = 6; process = 2; label = 2; choice = 0; value = 0; switch = false })
   pub ninth : stepped memory found_sb 9 ≡ Nothing
+
+-- a sitting's input that asks the same, and what it writes
+abbrev pub sb_input : List ℕ
+sb_input = codes "   1   8   0   5   5   0   0\n" ++ store_buffering_text
+
+pub record Sittings : Type 0 where
+  pub written : (out : List ℕ) → 625 ≤ length out → sat_in sb_input out ≡ (Ok 225, over sb_report out)
 
 -- that run replayed, as it is and with another line 7
 pub record Replays : Type 0 where
@@ -92,6 +101,7 @@ pub record Examples : Type 0 where
   pub is_read : read store_buffering_text ≡ Ok store_buffering
   pub efforts : Efforts
   pub reports : Reports
+  pub sittings : Sittings
   pub replays : Replays
   pub no_steps : NoSteps
   pub message_passing : MessagePassing
