@@ -1,3 +1,5 @@
+ghost use Rattle.std.specs.Prelude.{◌≡◌, ℕ, List, ◌∷◌, ◌++◌, IfSome};
+
 // An input, the room of its buffer, and what follows in the batch.
 #[derive(Clone, Copy)]
 pub(crate) struct Case<'a> {
@@ -21,13 +23,17 @@ fn number(digits: &[u8]) -> Option<usize> {
 }
 
 // What stands before the first such byte, and what follows it.
-fn split(bytes: &[u8], mark: u8) -> Option<(&[u8], &[u8])> {
+fn split(bytes: &[u8], mark: u8) -> Option<(&[u8], &[u8])>
+    ensures { IfSome result (λ parts. bytes.now ≡ parts.0.now ++ (mark ∷ parts.1.now)) }
+{
     let at = bytes.iter().position(|byte| *byte == mark)?;
     Some((&bytes[..at], &bytes[at + 1..]))
 }
 
 // The first case of a batch, if it begins with one.
-pub(crate) fn first_case(batch: &[u8]) -> Option<Case<'_>> {
+pub(crate) fn first_case(batch: &[u8]) -> Option<Case<'_>>
+    ensures { IfSome result (λ c. (line : List ℕ) × (batch.now ≡ line ++ (c.input.now ++ c.rest.now))) }
+{
     let (length, rest) = split(batch, b' ')?;
     let (room, rest) = split(rest, b'\n')?;
     let (input, rest) = rest.split_at_checked(number(length)?)?;
