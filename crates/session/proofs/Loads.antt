@@ -1,6 +1,7 @@
 -- What load, put and work do to what a session holds, by what the calls before them amount to.
 use Rattle.std.proofs.Common.{◌≡◌, ℕ, ◌+◌, ◌-◌, Bool, true, false, cond, List, Some, None as Nothing, Ok, Err, Option, Result, refl, sym, ap, ap₂, ◌∙◌, subst, arith}
 use Rattle.std.proofs.lemmas.Bool.{cond-true, cond-false}
+use Rattle.std.proofs.lemmas.Option.{same_Some}
 use Rattle.memory.specs.Machine.{Machine}
 use Rattle.program.specs.declared.refusals.Refusal.{Refusal as Unreadable}
 use Rattle.program.specs.Program.{Program, nothing, within}
@@ -35,9 +36,6 @@ load_says text old new r e = subst (λ (y : Result (Unit {0}) Refusal × Content
     go : (x : Result Program Unreadable) → SaysOf text (taken_in old.table x).0 (taken_in old.table x).1 → LoadSays text (taken old x).0 (taken old x).1
     go (Ok t) s = s
     go (Err why) s = s
-
-some_one : {A : Type 0} {a b : A} → Some a ≡ Some b → a ≡ b
-some_one e = cc
 
 module _ {Config : Type 0} (m : Machine Config) where
   pub load_law : (text : List ℕ) (old new : Content) (r : Result (Unit {0}) Refusal) → (r, new) ≡ loaded_in old text
@@ -125,7 +123,7 @@ module _ {Config : Type 0} (m : Machine Config) where
 
     on_question : (r : Result Worked Refusal) → WorkedIn m old e r new → Holds m (work_on (asked t q E) e) new × (r ≡ worked m (asked t q E) e)
     on_question (Ok worked) d =
-        let same : h.search ≡ d.before = some_one (sym h.held_is ∙ d.held) in
+        let same : h.search ≡ d.before = same_Some h.search d.before (sym h.held_is ∙ d.held) in
         let may : within 1 1000000 e ≡ true = taken_if (within 1 1000000 e) (subst (λ (o : Option Search). unworked m o e ≡ Nothing) h.held_is d.right) in
         let done = worked_on worked d.before d.after
         (subst (λ (s : Search). s.question ≡ q) same h.question)

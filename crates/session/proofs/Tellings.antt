@@ -40,6 +40,9 @@ use Rattle.session.specs.Words.{OfNothing, OfQuestion, OfTable, Known, ReplaySay
 use Rattle.session.proofs.Books.{Sound, sound}
 use Rattle.session.proofs.Knows.{known, spent_is, units_at}
 
+pub ok_one : {A E : Type 0} {a b : A} → ◌≡◌ {A = Result A E} (Ok a) (Ok b) → a ≡ b
+ok_one e = cc
+
 module _ {Config : Type 0} (m : Machine Config) (t : Program) where
   -- the steps of a run as its written form has them
   length_records : (w : World Config Place) (r : List Move) → length (records_of m t w r) ≡ length r
@@ -72,9 +75,6 @@ module _ {Config : Type 0} (m : Machine Config) (widest : ℕ) (bounded : (s : C
 
   of_question : (P : Program → Question → ℕ → Type 0) (t : Program) (q : Question) (E : ℕ) → booked h ≡ asked t q E → P t q E → OfQuestion (booked h) P
   of_question P t q E e p = subst (λ (b : Book). OfQuestion b P) (sym e) p
-
-  ok_one : {A E : Type 0} {a b : A} → ◌≡◌ {A = Result A E} (Ok a) (Ok b) → a ≡ b
-  ok_one e = cc
 
   work_asked : (e : ℕ) (w : Worked) (t : Program) (q : Question) (E : ℕ) → booked h ≡ asked t q E
       → w ≡ added (shown m t q E) (shown m t q (E + e)) → WorkSays m widest h e (Ok w)

@@ -38,13 +38,10 @@ use Rattle.session.specs.Words.{Known, report_of}
 use Rattle.session.proofs.Books.{Asking}
 use Rattle.session.proofs.Frees.{found_free}
 use Rattle.session.proofs.Knows.{asked_some, known}
-use Rattle.session.proofs.Tellings.{report_is}
+use Rattle.session.proofs.Tellings.{ok_one, report_is}
 use Rattle.sitting.specs.Outputs.{answered, calls, in_a_line, load_call, put_calls, sat, unless_refused, works}
 use Rattle.sitting.specs.Sits.{Accepts, Reports, Sits, Weakly}
 use Rattle.sitting.proofs.Settles.{works_more, works_none}
-
-ok_one : {A E : Type 0} {a b : A} → ◌≡◌ {A = Result A E} (Ok a) (Ok b) → a ≡ b
-ok_one e = cc
 
 module _ {Config : Type 0} (m : Machine Config) (t : Program) where
   length_run : (w : World Config Place) (i : ℕ) (r : List Move) → length (lines_text (run_fields m t w i r)) ≡ 25 * length r
