@@ -3,11 +3,11 @@
 
 #![tactic(auto)]
 
+mod moves;
+
 ghost use Rattle.std.specs.Prelude.{◌≡◌};
 ghost use Rattle.memory.specs.Shapes.{shape_by};
 ghost use Rattle.ceiling.specs.Ceiling.{Enough};
-
-mod moves;
 
 use memory::Shape;
 pub use moves::Move;

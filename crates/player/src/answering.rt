@@ -13,16 +13,13 @@ use super::endings::{Ending, lines_before};
 use super::inputs::cut;
 use super::steps::Step;
 use memory::{Fences, Kind, Memory, ReleaseAcquire, Sequential};
-use program::{Notice, Refusal, Table};
+use program::{LINE, Notice, Refusal, Table};
 use replay::{Fault, Played, replay};
 use runs::{Question, Wish, read_question};
 use std::alloc::{AllocError, Global};
 use std::fmt::Write;
 use text::read_line;
 use worlds::World;
-
-// How many bytes a line of a run has.
-const LINE: usize = 25;
 
 // A line for each step.
 fn tell_steps(told: &mut String, table: &Table, lines: &[[u8; LINE]]) -> Result<(), AllocError>

@@ -13,7 +13,7 @@ pub mod rows;
 pub mod tables;
 mod writing;
 
-pub use lines::{Unread, read_lines};
+pub use lines::{LINE, Unread, read_lines};
 pub use refusals::{Notice, Part, Refusal, Short};
 pub use rows::{Counts, Instruction, Row};
 pub use tables::Table;

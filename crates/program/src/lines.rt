@@ -9,7 +9,7 @@ use arrayvec::ArrayVec;
 use text::read_line;
 
 // How many bytes a line of six fields has.
-pub(crate) const LINE: usize = 25;
+pub const LINE: usize = 25;
 
 // Why a text is not read as lines of six fields. Lines count from 1.
 #[derive(Clone, Copy, Debug, PartialEq, Eq)]

@@ -11,11 +11,8 @@ use arrayvec::ArrayVec;
 use ceiling::Move;
 use memory::Memory;
 use program::{Table, read_lines};
-use runs::Question;
+use runs::{MOST_STEPS, Question};
 use worlds::{Record, World};
-
-// The most lines: a question has at most so many steps.
-const MOST_LINES: usize = 24;
 
 // What a line is judged by: the table and the question, its number, and the switches before it.
 #[derive(Clone, Copy)]
@@ -138,7 +135,7 @@ pub fn replay<M: Memory>(
     ensures value { result ≡ played M.machine (program table.now) question text.now }
     ensures words { Says M.machine (program table.now) question text.now result }
 {
-    let mut all = ArrayVec::<_, MOST_LINES>::new();
+    let mut all = ArrayVec::<_, MOST_STEPS>::new();
     read_lines(text, 0, &mut all)?;
     play(world, table, question, &all)
 }

@@ -1,6 +1,7 @@
 -- The question that a table is asked is the one that its numbers make.
 use Rattle.std.proofs.Common.{◌≡◌, ℕ, ◌≤◌, Bool, true, false, T, nat_le, ◌&&◌, List, Some, None, Option, refl, sym, ap, ◌∙◌}
 use Rattle.std.proofs.lemmas.Bool.{and_from, and_parts, le-leb, leb-true}
+use Rattle.std.proofs.lemmas.Option.{same_Some}
 use native.Mathlib.Bridge.{le_prop}
 use Rattle.memory.specs.declared.shapes.Shape.{Shape}
 use Rattle.memory.specs.Shapes.{shape_by}
@@ -8,9 +9,6 @@ use Rattle.memory.proofs.Shapings.{shape_there}
 use Rattle.program.specs.Program.{Program, counts_fit, within}
 use Rattle.runs.specs.declared.questions.Question.{Question}
 use Rattle.runs.specs.Asked.{Asks, question_if, question_by, bounds}
-
-some_one : {A : Type 0} {a b : A} → Some a ≡ Some b → a ≡ b
-some_one e = cc
 
 -- the facts of the two are the same
 itself : (q : Question) (b : Bool) (h : T b → (q.steps ≤ 24) × (q.switches ≤ 24)) → b ≡ true
@@ -63,7 +61,7 @@ asks_of t n k targets q = go (nat_le n 24 && nat_le k 24) (bounds n k) (shape_by
     go : (b : Bool) (h : T b → (n ≤ 24) × (k ≤ 24)) (o : Option Shape) → shape_by t.counts.processes t.counts.variables n ≡ o
         → question_if n k targets b h o ≡ Some q → Asks t n k targets q
     go true h (Some s) is e =
-        let same = some_one e in
+        let same = same_Some _ q e in
         record {
           shape = is ∙ ap (λ (x : Question). Some x.shape) same;
           steps = sym (ap (λ (x : Question). x.steps) same);

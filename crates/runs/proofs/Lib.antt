@@ -12,3 +12,4 @@ pub mod Firsts
 pub mod Looks
 pub mod Works
 pub mod Asked
+pub mod Judged

@@ -5,6 +5,7 @@ pub mod First
 pub mod Walk
 pub mod Insides
 pub mod Asked
+pub mod Askable
 pub mod Paths
 pub mod Cursors
 pub mod Searches

@@ -5,6 +5,7 @@ ghost use Rattle.program.specs.Reading.{then_do};
 ghost use Rattle.program.specs.Tables.{program};
 ghost use Rattle.worlds.specs.Worlds.{over, world as stand};
 ghost use Rattle.runs.specs.declared.questions.Unasked.TheVariants as unasked;
+ghost use Rattle.runs.specs.Askable.{Judges};
 ghost use Rattle.runs.specs.Asked.{arrived, judged, Asks};
 
 use super::questions::{Question, Unasked};
@@ -44,9 +45,8 @@ fn is_met<M: Memory>(world: &World<M>, process: u8, target: u8) -> bool
 }
 
 impl Question {
-    // The question for runs of at most so many steps and switches to these targets, one for each process from 1 on;
-    // or the first reason why it cannot be asked.
-    pub fn new(
+    // What is looked at, one after the other.
+    fn judge(
         table: &Table,
         steps: u16,
         switches: u16,
@@ -78,6 +78,22 @@ impl Question {
             }),
             None => unreachable(),
         }
+    }
+
+    // The question for runs of at most so many steps and switches to these targets, one for each process from 1 on;
+    // or the first reason why it cannot be asked.
+    pub fn new(
+        table: &Table,
+        steps: u16,
+        switches: u16,
+        targets: [u16; 4],
+    ) -> Result<Question, Unasked>
+        ensures outcome { then_do result (λ q. Ok tt) ≡ judged (program table.now) steps switches targets }
+        ensures words { Judges (program table.now) steps switches targets result }
+        ensures asks { IfOk result (λ q. Asks (program table.now) steps switches targets q) }
+        ensures enough { IfOk result (λ q. LosesNothing q.shape (over (program table.now)) q.steps) }
+    {
+        Question::judge(table, steps, switches, targets)
     }
 
     // Whether each process with a target stands at it.

@@ -17,7 +17,7 @@ mod walking;
 pub use ceiling::Move;
 pub use cursors::Cursor;
 pub use lines::{Wish, read_question};
-pub use paths::Run;
+pub use paths::{MOST_STEPS, Run};
 pub use questions::{Question, Unasked};
 pub use searches::Search;
 pub use verdicts::{Verdict, Worked};

@@ -1,7 +1,7 @@
 ghost use Rattle.std.specs.Prelude.{◌≡◌, ◌<◌, [], ◌∷◌, ◌++◌, length, IfSome, IfNone};
 ghost use Rattle.runs.specs.Paths.{path};
 
-use super::paths::Run;
+use super::paths::{MOST_STEPS, Run};
 use ceiling::Move;
 
 impl Run {
@@ -13,7 +13,7 @@ impl Run {
             moves: [Move {
                 process: 0,
                 choice: 0,
-            }; 24],
+            }; MOST_STEPS],
             len: 0,
         }
     }

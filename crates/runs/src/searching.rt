@@ -22,6 +22,7 @@ impl<M: Memory> Cursor<M> {
     pub fn over(memory: M) -> Self
         ensures world { stand M.config result.world ≡ record { config = M.config memory; places = λ p. beginning } }
         ensures run { path result.run ≡ [] }
+        ensures room { result.room ≡ 0 }
     {
         Cursor {
             world: World::new(memory),

@@ -15,10 +15,12 @@ use Rattle.runs.specs.declared.questions.Question.{Question}
 use Rattle.runs.specs.declared.verdicts.Verdict.{Verdict}
 use Rattle.runs.specs.declared.verdicts.Verdict.TheVariants.{More, Found, None}
 use Rattle.runs.specs.declared.verdicts.Worked.{Worked}
-use Rattle.runs.specs.Asked.{root, system}
+use Rattle.runs.specs.declared.questions.Unasked.{Unasked}
+use Rattle.runs.specs.Asked.{judged, root, system}
 use Rattle.runs.specs.First.{front}
 use Rattle.runs.specs.Runs.{list, switches_of}
 use Rattle.runs.specs.Searches.{hits, shown}
+use Rattle.runs.proofs.Judged.{judges}
 use Rattle.runs.proofs.Looks.{look_rises}
 use Rattle.replay.specs.declared.faults.Fault.{Fault}
 use Rattle.replay.specs.declared.faults.Played.{Played}
@@ -34,14 +36,27 @@ use Rattle.session.specs.Outcomes.{as_run, stage_by}
 use Rattle.session.specs.Recited.{records_of}
 use Rattle.session.specs.Reports.{numbered, report_text, switches_in, verdict_fields}
 use Rattle.session.specs.Series.{Call, Book, blank, held, asked, booked}
-use Rattle.session.specs.Answers.{added, replayed, reported, stepped, stood, text_after, worked}
+use Rattle.session.specs.Answers.{added, as_question, opened, replayed, reported, stepped, stood, text_after, worked}
 use Rattle.session.specs.Spent.{spent}
-use Rattle.session.specs.Words.{OfNothing, OfQuestion, OfTable, Known, ReplaySays, ReportSays, StageSays, StandingSays, StepBy, StepSays, WorkSays, report_of}
+use Rattle.session.specs.Words.{OfNothing, OfQuestion, OfTable, Known, PutBy, PutSays, ReplaySays, ReportSays, StageSays, StandingSays, StepBy, StepSays, WorkSays, report_of, table_of}
 use Rattle.session.proofs.Books.{Sound, sound}
 use Rattle.session.proofs.Knows.{known, spent_is, units_at}
 
 pub ok_one : {A E : Type 0} {a b : A} → ◌≡◌ {A = Result A E} (Ok a) (Ok b) → a ≡ b
 ok_one e = cc
+
+-- what is answered to a put says whether the question can be asked of the table
+pub put_says : (h : List Call) (n k : ℕ) (targets : List ℕ) (r : Result (Unit {0}) Refusal) → r ≡ opened (booked h) n k targets → PutSays h n k targets r
+put_says h n k targets r e = subst (PutSays h n k targets) (sym e) (by (booked h))
+  where
+    judged_by : (t : Program) (x : Result (Unit {0}) Unasked) → judged t n k targets ≡ x → PutBy t n k targets (as_question x)
+    judged_by t (Ok u) e = judges t n k targets (Ok tt) e
+    judged_by t (Err why) e = judges t n k targets (Err why) e
+
+    by : (b : Book) → PutBy (table_of b) n k targets (opened b n k targets)
+    by blank = refl
+    by (held t) = judged_by t (judged t n k targets) refl
+    by (asked t q E) = judged_by t (judged t n k targets) refl
 
 module _ {Config : Type 0} (m : Machine Config) (t : Program) where
   -- the steps of a run as its written form has them

@@ -6,13 +6,14 @@ use Rattle.text.specs.Writing.{over as written_over}
 use Rattle.memory.specs.Machine.{Machine}
 use Rattle.ceiling.specs.declared.moves.Move.{Move}
 use Rattle.ceiling.specs.Programs.{opening}
-use Rattle.program.specs.Program.{Program, lines_text}
+use Rattle.program.specs.Program.{Program, lines_text, nothing}
 use Rattle.program.specs.Source.{SaysOf}
 use Rattle.worlds.specs.Worlds.{over}
 use Rattle.runs.specs.declared.questions.Question.{Question}
 use Rattle.runs.specs.declared.verdicts.Verdict.{Verdict}
 use Rattle.runs.specs.declared.verdicts.Verdict.TheVariants as verdict
 use Rattle.runs.specs.declared.verdicts.Worked.{Worked}
+use Rattle.runs.specs.Askable.{Askable, Wrong}
 use Rattle.runs.specs.Asked.{system}
 use Rattle.runs.specs.Listed.{geometric}
 use Rattle.runs.specs.Runs.{switches_of}
@@ -45,6 +46,31 @@ LoadSays text (Err (Short needed)) c = ⊥
 LoadSays text (Err Input) c = ⊥
 LoadSays text (Err QuestionLine) c = ⊥
 LoadSays text (Err Buffer) c = ⊥
+
+-- the table that calls leave, of which nothing was read before the first load that was accepted
+abbrev pub table_of : Book → Program
+table_of blank = nothing
+table_of (held t) = t
+table_of (asked t q E) = t
+
+-- what is answered to n, k and targets for a table
+abbrev pub PutBy : Program → ℕ → ℕ → List ℕ → Result (Unit {0}) Refusal → Type 0
+PutBy t n k targets (Ok u) = Askable t n k targets
+PutBy t n k targets (Err (NoQuestion why)) = Wrong t n k targets why
+PutBy t n k targets (Err (Table why)) = ⊥
+PutBy t n k targets (Err WorkUnasked) = ⊥
+PutBy t n k targets (Err Effort) = ⊥
+PutBy t n k targets (Err ReplayUnasked) = ⊥
+PutBy t n k targets (Err (Run fault)) = ⊥
+PutBy t n k targets (Err ReportUnasked) = ⊥
+PutBy t n k targets (Err (Short needed)) = ⊥
+PutBy t n k targets (Err Input) = ⊥
+PutBy t n k targets (Err QuestionLine) = ⊥
+PutBy t n k targets (Err Buffer) = ⊥
+
+-- A question is put just if it can be asked of the table that the calls h leave; else what is told of it is wrong with it.
+abbrev pub PutSays : List Call → ℕ → ℕ → List ℕ → Result (Unit {0}) Refusal → Type 0
+PutSays h n k targets r = PutBy (table_of (booked h)) n k targets r
 
 -- there is a question, about the table t with the effort E, and this holds of it
 abbrev pub OfQuestion : Book → (Program → Question → ℕ → Type 0) → Type 0

@@ -7,16 +7,17 @@ ghost use Rattle.session.specs.declared.refusals.Refusal.TheVariants as refusal;
 ghost use Rattle.session.specs.Contents.{content, steps_in};
 ghost use Rattle.session.specs.Outcomes.{loaded_in, PutIn, replayed_in, reported_in, standing_in, stage_by, stepped_in, WorkedIn};
 
-use super::reciting::{MOST_STEPS, pick, recite};
+use super::reciting::{pick, recite};
 use super::refusals::Refusal;
 use super::sessions::Session;
 use super::standings::{Stage, Standing};
 use super::steps::Step;
-use super::writing::{LINE, lines, write_lines};
+use super::writing::{lines, write_lines};
 use arrayvec::ArrayVec;
 use memory::Memory;
+use program::LINE;
 use replay::{Played, replay};
-use runs::{Question, Search, Verdict, Worked};
+use runs::{MOST_STEPS, Question, Search, Verdict, Worked};
 use worlds::Record;
 
 // The most effort of one work.

@@ -7,7 +7,7 @@ ghost use Rattle.session.specs.Outcomes.{loaded_in, PutIn, replayed_in, reported
 ghost use Rattle.session.specs.Series as call;
 ghost use Rattle.session.specs.Answers.{loaded, opened, replayed, reported, stepped, stood, worked};
 ghost use Rattle.session.specs.Law.{After, Lawful};
-ghost use Rattle.session.specs.Words.{LoadSays, ReplaySays, ReportSays, StandingSays, StepSays, WorkSays};
+ghost use Rattle.session.specs.Words.{LoadSays, PutSays, ReplaySays, ReportSays, StandingSays, StepSays, WorkSays};
 
 use super::refusals::Refusal;
 use super::sessions::Session;
@@ -32,6 +32,7 @@ impl<M: Memory> Session<M> {
     pub fn put(&mut self, steps: u16, switches: u16, targets: [u16; 4]) -> Result<(), Refusal>
         ensures outcome { PutIn M.machine (content self.old) steps switches targets result (content self.new) }
         ensures law { Lawful M.machine (call.put steps switches targets) (λ b. opened b steps switches targets) (content self.old) result (content self.new) }
+        ensures words { (h : List call.Call) → After M.machine h (content self.old) → PutSays h steps switches targets result }
     {
         self.do_put(steps, switches, targets)
     }

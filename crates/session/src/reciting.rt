@@ -9,10 +9,8 @@ use arrayvec::ArrayVec;
 use ceiling::Move;
 use memory::{Memory, Shape};
 use program::Table;
+use runs::MOST_STEPS;
 use worlds::{Record, World};
-
-// The most steps that a run has.
-pub(crate) const MOST_STEPS: usize = 24;
 
 // Makes moves from the start, and tells the steps that they are, as far as they are offered.
 pub(crate) fn recite<M: Memory>(

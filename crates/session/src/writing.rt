@@ -7,14 +7,11 @@ ghost use Rattle.replay.specs.Playing.{record_fields};
 ghost use Rattle.session.specs.Recited.{InField};
 ghost use Rattle.session.specs.Reports.{report_lines, switches_in, verdict_fields, verdict_number};
 
-use super::reciting::MOST_STEPS;
 use arrayvec::ArrayVec;
-use runs::Verdict;
+use program::LINE;
+use runs::{MOST_STEPS, Verdict};
 use text::write_line;
 use worlds::Record;
-
-// How many bytes a line of six fields has.
-pub(crate) const LINE: usize = 25;
 
 // The most lines of a report: the verdict line, and one for each step.
 const MOST_LINES: usize = MOST_STEPS + 1;

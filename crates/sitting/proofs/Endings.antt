@@ -37,9 +37,6 @@ module _ {Config : Type 0} (m : Machine Config) (w : Wish) (text : List ℕ) whe
     abbrev last : Result ℕ Refusal × List ℕ
     last = reported m (booked (calls w text)) out
 
-    pub not_loaded : (why : Refusal) → Err why ≡ loaded blank text → (Err why, out) ≡ answered m w text out
-    not_loaded why e = ap (λ (r : Result (Unit {0}) Refusal). unless_refused r (unless_refused opening_answer last out) out) e
-
     pub not_opened : (why : Refusal) → Ok tt ≡ loaded blank text → Err why ≡ opening_answer → (Err why, out) ≡ answered m w text out
     not_opened why l e =
         ap (λ (r : Result (Unit {0}) Refusal). unless_refused r last out) e

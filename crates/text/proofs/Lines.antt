@@ -5,10 +5,6 @@ use Rattle.std.proofs.lemmas.Bool.Decides.{nat_tests}
 use Rattle.text.specs.Lines.{field_text, line_text, Small, all_small, field_number, joined_to, line_numbers, Reads, IsLine}
 use Rattle.text.proofs.Fields.{field_read, field_read_back}
 
-pub all_small_is : (ns : List ℕ) → all_small ns ≡ true → Small ns
-all_small_is [] e = tt
-all_small_is (n ∷ ns) e = let p = and_parts (leb n 9999) (all_small ns) e in (leb-true n 9999 p.0, all_small_is ns p.1)
-
 pub small_is_all : (ns : List ℕ) → Small ns → all_small ns ≡ true
 small_is_all [] h = refl
 small_is_all (n ∷ ns) h = and_from (leb n 9999) (all_small ns) (le-leb n 9999 h.0) (small_is_all ns h.1)
