@@ -1,4 +1,6 @@
 -- Runs by choices under the ceiling and runs by timestamps of any size are seen alike.
+-- For the way down, the timestamps that the whole run ends with are counted once, and each step is taken at the rank of its
+-- timestamp among them, over a store that stays like the first. By induction over the run.
 use Rattle.std.proofs.Common.{◌≡◌, ℕ, suc, ◌+◌, ◌<◌, ◌≤◌, Bool, true, List, [], ◌∷◌, length, get_or, Some, None, Option, sym, refl, ap, ◌∙◌, subst, ap₂, arith}
 use Rattle.memory.specs.declared.actions.Action.{Action}
 use Rattle.memory.specs.declared.shapes.Shape.{Shape}

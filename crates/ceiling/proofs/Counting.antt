@@ -1,4 +1,5 @@
 -- The start is like itself, and a run adds at most as many timestamps to a variable as it has steps.
+-- So the ranks among the timestamps at the end of a run stay within its number of steps, which is the ceiling.
 use Rattle.std.proofs.Common.{◌≡◌, ℕ, zero, suc, ◌+◌, ◌≤◌, Bool, true, false, ◌&&◌, eqb, leb, ◌⊎◌, List, [], ◌∷◌, length, Some, None, Option, sym, refl, ap, ◌∙◌, subst, inl, inr, arith}
 use Rattle.std.proofs.lemmas.Bool.{and_from, le-leb, cond-true}
 use Rattle.memory.specs.declared.actions.Action.{Action}

@@ -1,4 +1,5 @@
 -- Each rule, taken at a timestamp, can be taken at the renamed one, and leads to the renamed store.
+-- Rule by rule: ranks keep the order of what is counted, so what may be read, what is free and what comes next stay so.
 use Rattle.std.proofs.Common.{◌≡◌, ℕ, ◌+◌, ◌<◌, ◌≤◌, max, Bool, true, eqb, Some, None, Option, sym, refl, ap, ◌∙◌, subst, ap₂, subst₂, inl, inr, arith}
 use Rattle.std.proofs.lemmas.Bool.{cases_lt, cond_both, eqb-true}
 use Rattle.memory.specs.declared.actions.Action.{Action}

@@ -1,4 +1,6 @@
 -- The rows of a table, cut into those of each process.
+-- From the first row on: below a row stands the next label of its process or the first of the next one, and so the rows fall
+-- apart in one way.
 use Rattle.std.proofs.Common.{◌≡◌, ℕ, ◌+◌, ◌≤◌, true, ◌||◌, eqb, leb, List, [], ◌∷◌, ◌++◌, length, sym, refl, subst₂, inl, inr, arith}
 use Rattle.std.specs.List.{AllByRecursion}
 use Rattle.std.proofs.lemmas.Bool.{and_parts, leb-true}

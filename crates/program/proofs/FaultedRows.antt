@@ -1,4 +1,5 @@
 -- What is refused is wrong in the way that the refusal says: the rows.
+-- Along the rows: what is right up to here is kept, and the first row that is not gives the reason and its line.
 use Rattle.std.proofs.Common.{◌≡◌, ℕ, suc, ◌+◌, ◌<◌, Bool, true, false, cond, ◌&&◌, ◌||◌, eqb, ltb, ◌⊎◌, List, [], ◌∷◌, ◌++◌, map, length, get_or, Some, None, Ok, Err, Option, sym, refl, ap, ◌∙◌, subst, ap₂, inl, inr, arith}
 use Rattle.std.proofs.lemmas.Bool.{and_from, or_parts, eqb-false, ltb-true}
 use Rattle.std.specs.List.{AllByRecursion}

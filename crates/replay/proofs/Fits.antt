@@ -1,4 +1,6 @@
 -- Every number of a run's lines fits its field, whatever memory the run is over.
+-- What is kept along a run: registers and values seen are bytes, by the laws of every memory; labels are the table's, and choices
+-- stay below the widest offer.
 use Rattle.std.proofs.Common.{◌≡◌, ℕ, ◌+◌, ◌<◌, ◌≤◌, Bool, true, false, cond, eqb, leb, List, [], ◌∷◌, ◌++◌, length, Some, None, Ok, Option, sym, refl, ap, ◌∙◌, subst, arith}
 use Rattle.std.specs.List.{AllByRecursion}
 use Rattle.std.proofs.lemmas.Bool.{and_parts, leb-true}

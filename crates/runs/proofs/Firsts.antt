@@ -1,4 +1,5 @@
 -- What `look` answers, in a reader's words: the first run that reaches the targets, or that none does.
+-- Along the list: the first that passes the test is the first of all such runs, since the list is in order and holds every run.
 use Rattle.std.proofs.Common.{◌≡◌, ℕ, zero, suc, ◌<◌, ◌⊎◌, Bool, true, List, [], ◌∷◌, length, refl, sym, ap, ◌∙◌, subst, inl, inr, arith}
 use Rattle.std.proofs.lemmas.Bool.{both_ways, cases_order}
 use Rattle.ceiling.specs.declared.moves.Move.{Move}

@@ -86,7 +86,7 @@ module _ (t : Program) where
     told_right e (suc p) h = counted p (all_right 1 targets e p)
 
     told_wrong : (why : Unasked) → targets_judged t 1 targets ≡ Err why → is_nothing t ≡ false → n ≤ 24 → k ≤ 24 → Judges t n k targets {A = Unit {0}} (Err why)
-    told_wrong why e read steps switches = 
+    told_wrong why e read steps switches =
         let w = first_wrong 1 targets why e in
         subst (λ (x : Unasked). Judges t n k targets {A = Unit {0}} (Err x)) (sym w.is)
         (record { read = read; steps = steps; switches = switches; lower = lower w; process = omega arith; above = above w })

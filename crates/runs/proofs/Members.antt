@@ -1,4 +1,6 @@
 -- The runs as they are computed: they are exactly the runs within bounds, in order. Over any system.
+-- By induction over the moves that are left: the list is the path, and then lists joined by process and choice, each of runs with
+-- a move less to go.
 use Rattle.std.proofs.Common.{◌≡◌, ℕ, zero, suc, ◌+◌, ◌-◌, ◌<◌, ◌≤◌, ◌↔◌, nat_le, List, [], ◌∷◌, ◌++◌, sym, refl, ◌∙◌, subst, inl, inr, append_assoc, append-nil, le-leb, leb-true, arith}
 use Rattle.ceiling.specs.declared.moves.Move.{Move}
 use Rattle.runs.specs.Runs.{System, cost, move, upto, runs}

@@ -1,4 +1,5 @@
 -- What comes after a run in the list of runs, move by move. Over any system.
+-- After a path comes, from its last move up, what is onward of each move: so the search needs no more than the path.
 use Rattle.std.proofs.Common.{◌≡◌, ℕ, zero, suc, ◌+◌, ◌-◌, ◌<◌, ◌≤◌, Bool, true, false, List, [], ◌∷◌, ◌++◌, length, sym, refl, ap, ◌∙◌, append_assoc, append-nil, le-leb, arith}
 use Rattle.ceiling.specs.declared.moves.Move.{Move}
 use Rattle.runs.specs.Runs.{System, Node, end_of, cost, span, upto, less, child, at, list, branch, choices, processes, below, onward, after, rest, Offered}

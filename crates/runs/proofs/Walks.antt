@@ -1,4 +1,6 @@
 -- A search's steps in the tree of runs: a world that stands at a path, a move further, and what is still to come.
+-- What is to come goes by the path alone (`rest`); each loop of the search passes over a part of it in which no run is, until it
+-- enters one.
 use Rattle.std.proofs.Common.{◌≡◌, ℕ, ◌+◌, ◌-◌, ◌<◌, ◌≤◌, Bool, true, false, cond, List, [], ◌∷◌, ◌++◌, length, get_or, take, drop, drop-cons, add-one, append-nil, refl, sym, ap, ap₂, ◌∙◌, subst, arith}
 use Rattle.std.proofs.lemmas.List.{take-append-drop, take_more, length_push}
 use Rattle.ceiling.specs.declared.moves.Move.{Move}

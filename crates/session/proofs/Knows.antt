@@ -1,4 +1,5 @@
 -- What is known of a question after any series of calls, and the units that works have reported.
+-- By the efforts in all: what works that add up tell (crate `runs`) is turned to what is known of the question.
 use Rattle.std.proofs.Common.{◌≡◌, ℕ, ◌+◌, ◌≤◌, ◌↔◌, Bool, true, false, cond, ◌&&◌, List, [], ◌∷◌, Some, None as Nothing, Ok, Err, Option, Result, nat_le, refl, sym, ap, ◌∙◌, arith}
 use Rattle.std.proofs.lemmas.Bool.{and_parts}
 use Rattle.memory.specs.declared.actions.Action.{Action}

@@ -1,4 +1,5 @@
 -- What load, put and work do to what a session holds, by what the calls before them amount to.
+-- By cases of what they amount to: nothing, a table, or a table and a question.
 use Rattle.std.proofs.Common.{◌≡◌, ℕ, ◌+◌, ◌-◌, Bool, true, false, cond, List, Some, None as Nothing, Ok, Err, Option, Result, refl, sym, ap, ap₂, ◌∙◌, subst, arith}
 use Rattle.std.proofs.lemmas.Bool.{cond-true, cond-false}
 use Rattle.std.proofs.lemmas.Option.{same_Some}

@@ -1,4 +1,5 @@
 -- What the calls answer after any series of them, in a reader's words.
+-- By the law an answer is that of what the calls amount to; what is known of a question then (Knows) says the rest.
 use Rattle.std.proofs.Common.{◌≡◌, ℕ, ◌+◌, ◌≤◌, Bool, true, false, cond, ◌&&◌, List, [], ◌∷◌, ◌++◌, length, Ok, Err, Option, Result, nat_le, refl, sym, ap, ap₂, ◌∙◌, subst, arith}
 use Rattle.std.proofs.lemmas.Bool.{or_right}
 use Rattle.text.specs.Lines.{line_text}

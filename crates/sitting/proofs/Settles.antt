@@ -1,4 +1,5 @@
 -- Works after an answer is settled change nothing that a report tells.
+-- So the works that the code leaves out, of a thousand, may be added: by induction over how many are left.
 use Rattle.std.proofs.Common.{◌≡◌, ℕ, zero, suc, ◌+◌, ◌-◌, ◌<◌, Bool, true, false, not, List, Result, refl, sym, ap, ap₂, ◌∙◌, subst, arith}
 use Rattle.std.proofs.lemmas.Bool.{cond_both}
 use Rattle.memory.specs.Machine.{Machine}

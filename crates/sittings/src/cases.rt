@@ -1,4 +1,6 @@
-ghost use Rattle.std.specs.Prelude.{◌≡◌, ℕ, List, ◌∷◌, ◌++◌, IfSome};
+ghost use Rattle.std.specs.Prelude.{◌≡◌, true, ◌∷◌, ◌++◌, IfSome};
+ghost use Rattle.sittings.specs.Cases.{Begins};
+ghost use Rattle.sittings.specs.Numerals.{are_digits, numeral};
 
 // An input, the room of its buffer, and what follows in the batch.
 #[derive(Clone, Copy)]
@@ -9,7 +11,9 @@ pub(crate) struct Case<'a> {
 }
 
 // The number that some digits write.
-fn number(digits: &[u8]) -> Option<usize> {
+fn number(digits: &[u8]) -> Option<usize>
+    ensures { IfSome result (λ n. (are_digits digits.now ≡ true) × (n ≡ numeral digits.now)) }
+{
     let mut number: usize = 0;
     for digit in digits {
         if !digit.is_ascii_digit() {
@@ -32,7 +36,7 @@ fn split(bytes: &[u8], mark: u8) -> Option<(&[u8], &[u8])>
 
 // The first case of a batch, if it begins with one.
 pub(crate) fn first_case(batch: &[u8]) -> Option<Case<'_>>
-    ensures { IfSome result (λ c. (line : List ℕ) × (batch.now ≡ line ++ (c.input.now ++ c.rest.now))) }
+    ensures { IfSome result (λ c. Begins batch.now c.input.now c.room c.rest.now) }
 {
     let (length, rest) = split(batch, b' ')?;
     let (room, rest) = split(rest, b'\n')?;

@@ -1,3 +1,4 @@
+-- The rows so far, and those that the lines left give below the last of them, are the rows of all lines.
 use Rattle.std.proofs.Common.{◌≡◌, ℕ, ◌+◌, List, [], Ok, sym, ap, ◌∙◌, get_or, drop, arith}
 use Rattle.std.proofs.lemmas.Result.{err_from_is_err_and}
 use Rattle.std.proofs.lemmas.List.{drop_all}

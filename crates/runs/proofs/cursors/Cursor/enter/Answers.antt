@@ -1,3 +1,5 @@
+-- A move with room for its switch is entered, and what is onward of it begins with its runs; any other is passed over, and the
+-- world is brought back to the path.
 use Rattle.std.proofs.Common.{◌≡◌, ◌-◌, ◌≤◌, cond, ◌∷◌, ◌++◌, [], length, List, subst, refl, sym, rules, arith}
 use Rattle.std.proofs.lemmas.List.{length_push}
 use Rattle.ceiling.specs.declared.moves.Move.{Move}

@@ -1,3 +1,5 @@
+-- After some units the loop stands at a run, with what comes after it still to look at (Looks); a turn finds it, ends the list or
+-- goes on to the next.
 use Rattle.std.proofs.Common.{◌≡◌, ◌∷◌, true, false, sym, ap, ◌∙◌}
 use Rattle.program.specs.Tables.{program}
 use Rattle.worlds.specs.Worlds.{world as stand}

@@ -1,3 +1,4 @@
+-- The lines are those of the definition, each with numbers that fit their fields, so 25 bytes for each are the text's length.
 use Rattle.std.proofs.Common.{◌≡◌, ℕ, List, length, Some, Option, sym, subst, ap, ◌∙◌, rules, arith}
 use Rattle.std.specs.List.{AllByRecursion}
 use Rattle.text.specs.Writing.{over}
