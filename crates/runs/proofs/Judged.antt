@@ -1,12 +1,12 @@
 -- What the first reason why a question is not asked says of the table and the numbers.
-use Rattle.std.proofs.Common.{◌≡◌, ℕ, zero, suc, ◌+◌, ◌-◌, ◌<◌, ◌≤◌, ◌⊎◌, inl, inr, Bool, true, false, cond, nat_le, leb, ◌&&◌, List, [], ◌∷◌, Ok, Err, Result, refl, sym, ap, ◌∙◌, subst, slice_index, arith}
-use Rattle.std.proofs.lemmas.Bool.{and_parts, leb-true, leb-false}
+use Rattle.std.proofs.Common.{◌≡◌, ℕ, zero, suc, ◌+◌, ◌-◌, ◌<◌, ◌≤◌, inl, inr, Bool, true, false, cond, nat_le, ◌&&◌, List, [], ◌∷◌, Ok, Err, Result, refl, sym, ap, ◌∙◌, subst, slice_index, arith}
+use Rattle.std.proofs.lemmas.Bool.{leb-true, leb-false}
 use Rattle.program.specs.Program.{Program, is_nothing, labels_of}
 use Rattle.program.specs.Reading.{then_do}
 use Rattle.runs.specs.declared.questions.Unasked.{Unasked}
 use Rattle.runs.specs.declared.questions.Unasked.TheVariants.{NoTable, Bounds, Target}
 use Rattle.runs.specs.Asked.{judged, targets_judged}
-use Rattle.runs.specs.Askable.{Aims, Askable, Beyond, Astray, Judges}
+use Rattle.runs.specs.Askable.{Aims, Judges}
 
 module _ (t : Program) where
   -- the i-th of the targets from process p on is right

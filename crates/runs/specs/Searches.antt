@@ -47,11 +47,13 @@ module _ {Config : Type 0} (m : Machine Config) (t : Program) where
         ≡ record { units = worked.units; verdict = worked.verdict; left = pending_at s.question worked.verdict (path new.run) }
     pub over : s.verdict ≡ More → worked.verdict ≡ None → path new.run ≡ []
 
-  -- the one outcome; a search of another table, which stands at no run of this one, stays where it is
+  -- the one outcome; a search that has its answer stays as it is, and so does one of another table, which stands at no run
+  -- of this one
   pub record Works (s : Search) (e : ℕ) (worked : Worked) (new : Search) : Type 0 where
     pub question : new.question ≡ s.question
     pub verdict : new.verdict ≡ worked.verdict
     pub goes : IsPath m t s.question (path s.run) → Goes s e worked new
+    pub stands : (s.verdict ≡ More → ⊥) → (worked.units ≡ 0) × (new ≡ s)
     pub astray : (IsPath m t s.question (path s.run) → ⊥) → (worked.units ≡ 0) × (worked.verdict ≡ s.verdict) × (new ≡ s)
 
   -- The search stands where works since the question was put have brought it: their efforts add up to E, their units to U.
