@@ -1,9 +1,9 @@
 -- What a series of calls amounts to, one call after another.
-use Rattle.std.proofs.Common.{◌≡◌, ℕ, ◌+◌, true, false, List, [], ◌∷◌, ◌++◌, length, Some, None, Ok, Err, Option, Result, leb, refl, sym, subst, arith}
-use Rattle.std.proofs.lemmas.Bool.{and_parts, cond_both, ne_eqb}
+use Rattle.std.proofs.Common.{◌≡◌, ℕ, ◌+◌, true, false, ◌&&◌, List, [], ◌∷◌, ◌++◌, length, Some, None, Ok, Err, Option, Result, leb, refl, sym, subst, arith}
+use Rattle.std.proofs.lemmas.Bool.{and_parts, cond_both, ne_eqb, or_right}
 use Rattle.memory.specs.Machine.{Machine}
 use Rattle.program.specs.declared.refusals.Refusal.{Refusal as Unreadable}
-use Rattle.program.specs.Program.{Program, counts_fit, is_nothing, proper, rows_fit, labels_of, within}
+use Rattle.program.specs.Program.{Program, counts_fit, counts_none, is_nothing, kept, proper, rows_fit, labels_of, within}
 use Rattle.program.specs.Reading.{read}
 use Rattle.program.proofs.Texts.{ends_some, read_is}
 use Rattle.runs.specs.declared.questions.Question.{Question}
@@ -73,6 +73,10 @@ lawful m c answer old a new f = record {
   after = λ h s. subst (λ (b : Book). Holds m b new) (sym (from_more blank h c)) (f (booked h) (sound h) s).0;
   answers = λ h s. (f (booked h) (sound h) s).1;
 }
+
+-- a table with all the properties keeps what every table keeps
+pub proper_kept : (t : Program) → proper t ≡ true → kept t ≡ true
+proper_kept t good = or_right (counts_none t.counts && is_nothing t) (proper t) good
 
 -- a table that was read has rows
 pub proper_some : (t : Program) → proper t ≡ true → is_nothing t ≡ false

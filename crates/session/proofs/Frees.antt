@@ -1,6 +1,5 @@
 -- The ceiling of release-acquire memory loses nothing, whatever calls there were.
-use Rattle.std.proofs.Common.{◌≡◌, ℕ, ◌↔◌, true, ◌&&◌, List, Some, refl, sym, ap, subst}
-use Rattle.std.proofs.lemmas.Bool.{or_right}
+use Rattle.std.proofs.Common.{◌≡◌, ℕ, ◌↔◌, true, List, Some, refl, sym, ap, subst}
 use Rattle.memory.specs.Bytes.{SeesBytes}
 use Rattle.memory.specs.Bytes as bytes
 use Rattle.memory.specs.Fenced.{leads_below, lowered_takes}
@@ -12,7 +11,7 @@ use Rattle.ceiling.specs.declared.moves.Move.{Move}
 use Rattle.ceiling.specs.Ceiling.{memory, LosesNothing, Reachable, Reached}
 use Rattle.ceiling.specs.Programs.{World, opening}
 use Rattle.ceiling.proofs.Both.{enough}
-use Rattle.program.specs.Program.{Program, counts_none, is_nothing, kept, proper}
+use Rattle.program.specs.Program.{Program, proper}
 use Rattle.worlds.specs.declared.places.Place.{Place}
 use Rattle.worlds.specs.Worlds.{over}
 use Rattle.runs.specs.declared.questions.Question.{Question}
@@ -30,7 +29,7 @@ use Rattle.session.specs.declared.standings.Stage.TheVariants as stage
 use Rattle.session.specs.Outcomes.{stage_by}
 use Rattle.session.specs.Series.{Book, blank, held, asked, booked}
 use Rattle.session.specs.Free.{Low, Timeless, IfAsked, Freed}
-use Rattle.session.proofs.Books.{Asking, Sound, sound}
+use Rattle.session.proofs.Books.{Asking, Sound, proper_kept, sound}
 use Rattle.session.proofs.Knows.{found_some}
 
 module _ (t : Program) (q : Question) (good : proper t ≡ true) (asking : Asking t q) where
@@ -77,13 +76,10 @@ module _ (t : Program) (q : Question) (good : proper t ≡ true) (asking : Askin
       let free = found_free v x d (λ e. closed (ap stage_by e)) in
       (λ e. free.0 (found_of v e), λ a. ap stage_by (free.1 a))
 
-  keeps : kept t ≡ true
-  keeps = or_right (counts_none t.counts && is_nothing t) (proper t) good
-
   run_low : (r : List Move) → Runs r → Low q.steps (end_of (system memory t) start r).config.store
   run_low r w =
       let end = end_of (system memory t) start r in
-      let sound = end_sound memory t keeps (bytes.fences machine bytes.release_acquire) q.shape r w.run in
+      let sound = end_sound memory t (proper_kept t good) (bytes.fences machine bytes.release_acquire) q.shape r w.run in
       let timely = always_timely q.shape (lowered_takes machine sound.takes) end.config (leads_below machine (memory.initial q.shape) sound.takes end.config sound.led) in
       let n = asking.steps in
       let by = asks.shape in

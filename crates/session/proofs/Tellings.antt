@@ -1,7 +1,6 @@
 -- What the calls answer after any series of them, in a reader's words.
 -- By the law an answer is that of what the calls amount to; what is known of a question then (Knows) says the rest.
-use Rattle.std.proofs.Common.{◌≡◌, ℕ, ◌+◌, ◌≤◌, Bool, true, false, cond, ◌&&◌, List, [], ◌∷◌, ◌++◌, length, Ok, Err, Option, Result, nat_le, refl, sym, ap, ap₂, ◌∙◌, subst, arith}
-use Rattle.std.proofs.lemmas.Bool.{or_right}
+use Rattle.std.proofs.Common.{◌≡◌, ℕ, ◌+◌, ◌≤◌, Bool, true, false, cond, List, [], ◌∷◌, ◌++◌, length, Ok, Err, Option, Result, nat_le, refl, sym, ap, ap₂, ◌∙◌, subst, arith}
 use Rattle.text.specs.Lines.{line_text}
 use Rattle.text.specs.Writing.{over as written_over}
 use Rattle.memory.specs.declared.actions.Action.{Action}
@@ -9,7 +8,7 @@ use Rattle.memory.specs.Bytes.{SeesBytes}
 use Rattle.memory.specs.Machine.{Machine}
 use Rattle.ceiling.specs.declared.moves.Move.{Move}
 use Rattle.ceiling.specs.Programs.{World, next, opening}
-use Rattle.program.specs.Program.{Program, counts_none, is_nothing, kept, lines_text, proper, within}
+use Rattle.program.specs.Program.{Program, lines_text, within}
 use Rattle.worlds.specs.declared.places.Place.{Place}
 use Rattle.worlds.specs.Worlds.{over, record_of}
 use Rattle.runs.specs.declared.questions.Question.{Question}
@@ -40,7 +39,7 @@ use Rattle.session.specs.Series.{Call, Book, blank, held, asked, booked}
 use Rattle.session.specs.Answers.{added, as_question, opened, replayed, reported, stepped, stood, text_after, worked}
 use Rattle.session.specs.Spent.{spent}
 use Rattle.session.specs.Words.{OfNothing, OfQuestion, OfTable, Known, PutBy, PutSays, ReplaySays, ReportSays, StageSays, StandingSays, StepBy, StepSays, WorkSays, report_of, table_of}
-use Rattle.session.proofs.Books.{Sound, sound}
+use Rattle.session.proofs.Books.{Sound, proper_kept, sound}
 use Rattle.session.proofs.Knows.{known, spent_is, units_at}
 
 pub ok_one : {A E : Type 0} {a b : A} → ◌≡◌ {A = Result A E} (Ok a) (Ok b) → a ≡ b
@@ -174,9 +173,6 @@ module _ {Config : Type 0} (m : Machine Config) (widest : ℕ) (bounded : (s : C
     pub replay_says : (text : List ℕ) (r : Result Played Refusal) → r ≡ replayed m (booked h) text → ReplaySays m h text r
     replay_says text r same = subst (ReplaySays m h text) (sym same) (go (booked h) refl (sound h))
       where
-        keeps : (t : Program) → proper t ≡ true → kept t ≡ true
-        keeps t good = or_right (counts_none t.counts && is_nothing t) (proper t) good
-
         by : (t : Program) (q : Question) (E : ℕ) → booked h ≡ asked t q E → (x : Result Played Fault) → Says m t q text x → ReplaySays m h text (as_run x)
         by t q E is (Ok p) s = of_question (λ t q E. Says m t q text (Ok p)) t q E is s
         by t q E is (Err fault) s = of_question (λ t q E. Says m t q text (Err fault)) t q E is s
@@ -184,4 +180,4 @@ module _ {Config : Type 0} (m : Machine Config) (widest : ℕ) (bounded : (s : C
         go : (b : Book) → booked h ≡ b → Sound b → ReplaySays m h text (replayed m b text)
         go blank is good = λ x. subst (λ (b : Book). OfQuestion b (λ t q E. Unit {0})) is x
         go (held t) is good = λ x. subst (λ (b : Book). OfQuestion b (λ t q E. Unit {0})) is x
-        go (asked t q E) is good = by t q E is (played m t q text) (says m t q (keeps t good.0) widest bounded few bytes text)
+        go (asked t q E) is good = by t q E is (played m t q text) (says m t q (proper_kept t good.0) widest bounded few bytes text)
