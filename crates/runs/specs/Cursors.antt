@@ -50,13 +50,6 @@ module _ {Config : Type 0} (m : Machine Config) (t : Program) (q : Question) whe
     pub within : length (path c.run) ≤ q.steps
     pub here : StandsAt (world config c.world) c.room (path c.run)
 
-  -- Where a work leaves the cursor: at the run where its search stops, if that stood open at a run; else with the run and the
-  -- room that it had, and at a search that has its answer as it was.
-  pub record Rests {X : Type 0} (config : X → Config) (open_then : Type 0) (moves to : List Move) (old new : Cursor X) : Type 0 where
-    pub answered : (open_then → ⊥) → new ≡ old
-    pub stopped : open_then → IsPath moves → Sound config new × (path new.run ≡ to)
-    pub astray : (IsPath moves → ⊥) → (new.run ≡ old.run) × (new.room ≡ old.room)
-
   -- taking the last move off: the run before it, and where it leads; or that there is none
   pub record TakenOff {X : Type 0} (config : X → Config) (old new : Cursor X) (last : Move) : Type 0 where
     pub sound : Sound config new

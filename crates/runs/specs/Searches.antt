@@ -3,6 +3,7 @@ use Rattle.std.specs.Prelude.{◌≡◌, ℕ, ◌+◌, ◌*◌, Bool, List, [], 
 use Rattle.memory.specs.Machine.{Machine}
 use Rattle.ceiling.specs.declared.moves.Move.{Move}
 use Rattle.program.specs.Program.{Program}
+use Rattle.runs.specs.declared.cursors.Cursor.{Cursor}
 use Rattle.runs.specs.declared.questions.Question.{Question}
 use Rattle.runs.specs.declared.searches.Search.{Search}
 use Rattle.runs.specs.declared.verdicts.Verdict.{Verdict}
@@ -13,7 +14,7 @@ use Rattle.runs.specs.Listed.{Lists, TheList}
 use Rattle.runs.specs.Look.{Look, answers, look}
 use Rattle.runs.specs.First.{Decided, Says}
 use Rattle.runs.specs.Asked.{arrived, root, system}
-use Rattle.runs.specs.Cursors.{IsPath}
+use Rattle.runs.specs.Cursors.{IsPath, Sound}
 use Rattle.runs.specs.Paths.{path}
 
 module _ {Config : Type 0} (m : Machine Config) (t : Program) where
@@ -55,6 +56,13 @@ module _ {Config : Type 0} (m : Machine Config) (t : Program) where
     pub goes : IsPath m t s.question (path s.run) → Goes s e worked new
     pub stands : (s.verdict ≡ More → ⊥) → (worked.units ≡ 0) × (new ≡ s)
     pub astray : (IsPath m t s.question (path s.run) → ⊥) → (worked.units ≡ 0) × (worked.verdict ≡ s.verdict) × (new ≡ s)
+
+  -- Where a work of the search s leaves the cursor c: as it was, if s has its answer; else at the run where the search stops; and
+  -- where s stands at no run, with the run and the room that it had.
+  pub record Rests {X : Type 0} (config : X → Config) (s new : Search) (c after : Cursor X) : Type 0 where
+    pub answered : (s.verdict ≡ More → ⊥) → after ≡ c
+    pub stopped : s.verdict ≡ More → IsPath m t s.question (path s.run) → Sound m t s.question config after × (path after.run ≡ path new.run)
+    pub astray : (IsPath m t s.question (path s.run) → ⊥) → (after.run ≡ c.run) × (after.room ≡ c.room)
 
   -- The search stands where works since the question was put have brought it: their efforts add up to E, their units to U.
   pub record Since (s : Search) (E U : ℕ) : Type 0 where

@@ -2,11 +2,10 @@ ghost use Rattle.std.specs.Prelude.{◌≡◌, []};
 ghost use Rattle.program.specs.Tables.{program};
 ghost use Rattle.worlds.specs.Places.{beginning};
 ghost use Rattle.worlds.specs.Worlds.{world as stand};
-ghost use Rattle.runs.specs.declared.verdicts.Verdict.TheVariants.{More};
-ghost use Rattle.runs.specs.Cursors.{Rests, Sound};
+ghost use Rattle.runs.specs.Cursors.{Sound};
 ghost use Rattle.runs.specs.Listed.{TotalOrder};
 ghost use Rattle.runs.specs.Paths.{path};
-ghost use Rattle.runs.specs.Searches.{HasList, Passed, Since, Told, Works};
+ghost use Rattle.runs.specs.Searches.{HasList, Passed, Rests, Since, Told, Works};
 
 use super::cursors::Cursor;
 use super::paths::Run;
@@ -71,7 +70,7 @@ impl<M: Memory> Cursor<M> {
     // Makes the search's run again, which is not trusted to be one, and passes along the runs from there.
     fn take_up(&mut self, table: &Table, search: &mut Search, effort: u32) -> Worked
         ensures works { Works M.machine (program table.now) search.old effort result search.new }
-        ensures rests { Rests M.machine (program table.now) search.old.question M.config (search.old.verdict ≡ More) (path search.old.run) (path search.new.run) self.old self.new }
+        ensures rests { Rests M.machine (program table.now) M.config search.old search.new self.old self.new }
     {
         let standing = Worked {
             units: 0,
@@ -95,7 +94,7 @@ impl<M: Memory> Cursor<M> {
     // targets, or after the last.
     pub fn work(&mut self, table: &Table, search: &mut Search, effort: u32) -> Worked
         ensures works { Works M.machine (program table.now) search.old effort result search.new }
-        ensures rests { Rests M.machine (program table.now) search.old.question M.config (search.old.verdict ≡ More) (path search.old.run) (path search.new.run) self.old self.new }
+        ensures rests { Rests M.machine (program table.now) M.config search.old search.new self.old self.new }
         ensures told { Told M.machine (program table.now) search.old effort result search.new }
     {
         self.take_up(table, search, effort)
