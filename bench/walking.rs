@@ -1,4 +1,5 @@
-// The program `walking` in plain Rust, to compare how fast release-acquire memory answers.
+//! The program `walking` in plain Rust, to compare how fast release-acquire memory answers. Its memory is its own:
+//! that of the second implementation, made for runs of 24 steps, takes at least a quarter longer on such walks.
 
 #[derive(Clone, Copy)]
 enum Action {
@@ -17,15 +18,12 @@ struct Message {
 
 const CEILING: usize = 24;
 
-// After so many turns the memory starts again, since it fills up.
+/// After so many turns the memory starts again, since it fills up.
 const LENGTH: u32 = 60;
 
-const FIRST: Message = Message {
-    value: 0,
-    view: [0; 5],
-};
+const FIRST: Message = Message { value: 0, view: [0; 5] };
 
-// The messages by variable and timestamp, and the view of each process.
+/// The messages by variable and timestamp, and the view of each process.
 struct Memory {
     messages: [[Option<Message>; CEILING + 1]; 5],
     views: [View; 5],
@@ -35,21 +33,16 @@ impl Memory {
     fn new() -> Memory {
         let mut row = [None; CEILING + 1];
         row[0] = Some(FIRST);
-        Memory {
-            messages: [row; 5],
-            views: [[0; 5]; 5],
-        }
+        Memory { messages: [row; 5], views: [[0; 5]; 5] }
     }
 
     fn admits(&self, process: usize, action: Action, at: usize) -> bool {
         match action {
             Action::Read { variable } => {
-                at >= usize::from(self.views[process][variable])
-                    && self.messages[variable][at].is_some()
+                at >= usize::from(self.views[process][variable]) && self.messages[variable][at].is_some()
             }
             Action::Write { variable, .. } => {
-                at > usize::from(self.views[process][variable])
-                    && self.messages[variable][at].is_none()
+                at > usize::from(self.views[process][variable]) && self.messages[variable][at].is_none()
             }
             Action::Swap { variable, old, .. } => {
                 at < CEILING
@@ -64,7 +57,7 @@ impl Memory {
         (0..=CEILING).filter(|at| self.admits(process, action, *at)).count()
     }
 
-    // What the process sees in a message, and its view then.
+    /// What the process sees in a message, and its view then.
     fn reading(&self, process: usize, message: Message) -> (u8, bool, View) {
         let mut view = self.views[process];
         let mut switch = false;
@@ -83,7 +76,7 @@ impl Memory {
         self.messages[variable][at] = Some(Message { value, view });
     }
 
-    // The value and the mark of a choice, or how many are offered.
+    /// The value and the mark of a choice, or how many are offered.
     fn take(&mut self, process: usize, action: Action, choice: usize) -> Result<(u8, bool), usize> {
         let mut passed = 0;
         for at in 0..=CEILING {
@@ -133,11 +126,7 @@ fn action(kind: u32, seed: u32) -> Action {
     match kind % 3 {
         0 => Action::Read { variable },
         1 => Action::Write { variable, value },
-        _ => Action::Swap {
-            variable,
-            old: value,
-            new: bit(seed, 22),
-        },
+        _ => Action::Swap { variable, old: value, new: bit(seed, 22) },
     }
 }
 
@@ -181,13 +170,7 @@ fn walk(turns: u32, asks: bool) -> Tally {
 fn main() {
     let mut args = std::env::args().skip(1);
     let turns = args.next().and_then(|word| word.parse().ok()).unwrap_or(1000);
-    let Tally {
-        offered,
-        taken,
-        refused,
-        values,
-        switches,
-    } = walk(turns, args.next().is_some());
+    let Tally { offered, taken, refused, values, switches } = walk(turns, args.next().is_some());
     println!(
         "{turns} turns: {taken} taken, {refused} refused; {offered} offered; values {values}, {switches} switches"
     );
