@@ -1,6 +1,6 @@
 -- Lines: what is read is the text of the numbers, and the text of numbers that fit is read as those.
 use Rattle.std.proofs.Common.{◌≡◌, ℕ, zero, suc, ◌+◌, ◌*◌, true, leb, List, [], ◌∷◌, ◌++◌, length, get_or, Some, None, Option, sym, refl, ap, ◌∙◌, subst, arith}
-use Rattle.std.proofs.lemmas.Bool.{and_parts, and_from, leb-true, le-leb}
+use Rattle.std.proofs.lemmas.Bool.{and_from, le-leb}
 use Rattle.std.proofs.lemmas.Bool.Decides.{nat_tests}
 use Rattle.text.specs.Lines.{field_text, line_text, Small, all_small, field_number, joined_to, line_numbers, Reads, IsLine}
 use Rattle.text.proofs.Fields.{field_read, field_read_back}
