@@ -1,9 +1,8 @@
 -- Every number of a run's lines fits its field, whatever memory the run is over.
 -- What is kept along a run: registers and values seen are bytes, by the laws of every memory; labels are the table's, and choices
 -- stay below the widest offer.
-use Rattle.std.proofs.Common.{◌≡◌, ℕ, ◌+◌, ◌<◌, ◌≤◌, Bool, true, false, cond, eqb, leb, List, [], ◌∷◌, ◌++◌, length, Some, None, Ok, Option, sym, refl, ap, ◌∙◌, subst, arith}
+use Rattle.std.proofs.Common.{◌≡◌, ℕ, ◌+◌, ◌<◌, ◌≤◌, Bool, true, false, cond, eqb, List, [], ◌∷◌, ◌++◌, length, Some, None, Ok, Option, sym, refl, ap, ◌∙◌, subst, arith}
 use Rattle.std.specs.List.{AllByRecursion}
-use Rattle.std.proofs.lemmas.Bool.{and_parts, leb-true}
 use Rattle.std.proofs.lemmas.Bool.Decides.{nat_tests}
 use Rattle.text.specs.Lines.{Small}
 use Rattle.memory.specs.declared.actions.Action.{Action}
@@ -19,6 +18,7 @@ use Rattle.program.specs.declared.rows.Instruction.{Instruction}
 use Rattle.program.specs.declared.rows.Instruction.TheVariants.{Read, Write, Cas, Set, Add, Jeq, Assume, Fence, Term}
 use Rattle.program.specs.Program.{Program, counts_fit, kept, within, labels_of, instruction_at}
 use Rattle.program.specs.Tables.{Fits}
+use Rattle.program.proofs.Smalls.{within_high}
 use Rattle.program.proofs.Starts.{fits_at}
 use Rattle.worlds.specs.declared.places.Place.{Place}
 use Rattle.worlds.specs.Places.{action_of}
@@ -43,9 +43,6 @@ limits c fit = record { crowd = grind (arith, nat_tests); some = grind (arith, n
 found : (b : Bool) (o : Option Instruction) (x : Instruction) → cond b o None ≡ Some x → (b ≡ true) × (o ≡ Some x)
 found true o x e = (refl, e)
 found false o x e = let z : ◌≡◌ {A = ℕ} 0 1 = cc in absurd (omega arith)
-
-low_by : (low high n : ℕ) → within low high n ≡ true → n ≤ high
-low_by low high n e = leb-true n high (and_parts (leb low n) (leb n high) e).1
 
 -- of a value from 0 to 255 such a one is told, and a mark is 0 or 1
 shown_small : (o : Option Instruction) (v : ℕ) → v ≤ 255 → shown_by o v ≤ 255
@@ -159,8 +156,8 @@ module _ {Config : Type 0} (m : Machine Config) (t : Program) (keeps : kept t �
   line_small : (i : ℕ) → i ≤ 24 → k.choice ≤ 9999 → Small (record_fields i (record_of m t w k))
   line_small i early low =
       let fit = stood t keeps k.process (w.places k.process) a.instruction a.stands in
-      let crowd : k.process ≤ t.counts.processes = low_by 1 t.counts.processes k.process fit.process in
-      let label : (w.places k.process).label ≤ 32 = low_by 1 32 (w.places k.process).label fit.label in
+      let crowd : k.process ≤ t.counts.processes = within_high 1 t.counts.processes k.process fit.process in
+      let label : (w.places k.process).label ≤ 32 = within_high 1 32 (w.places k.process).label fit.label in
       let value = shown_small (instruction_in t k.process (w.places k.process)) (made m (over t) w k).value sees in
       let mark = mark_small (made m (over t) w k).mark in
       let l = limits t.counts fit.counts in

@@ -1,5 +1,5 @@
 -- What a search shows once its works are done, and one search more.
-use Rattle.std.proofs.Common.{◌≡◌, ℕ, zero, suc, ◌+◌, ◌*◌, ◌^◌, ◌<◌, ◌≤◌, Bool, true, false, cond, eqb, List, [], ◌∷◌, sym, ap, ◌∙◌, add-mul, one-mul, ne_eqb, arith}
+use Rattle.std.proofs.Common.{◌≡◌, ℕ, zero, suc, ◌+◌, ◌*◌, ◌^◌, ◌<◌, ◌≤◌, Bool, true, false, cond, List, [], ◌∷◌, sym, ap, ◌∙◌, add-mul, one-mul, ne_eqb, arith}
 use Rattle.std.proofs.lemmas.Nat.{mul-le}
 use Rattle.memory.specs.Machine.{Machine}
 use Rattle.ceiling.specs.declared.moves.Move.{Move}
@@ -46,16 +46,13 @@ ended m t q s E F U v since asked all said =
     ∙ ap (λ (e : ℕ). tally (shown m t q e).units (shown m t q e).verdict) all
     ∙ ap (λ (u : ℕ). tally u l.verdict) (sym (one-mul l.units))
 
-not_none : (n : ℕ) → eqb (n + 1) 0 ≡ false
-not_none n = ne_eqb (n + 1) 0 (λ e. omega (arith, e))
-
 pub one_more : (l : Look) (n : ℕ) (before once : Tally) → before ≡ tallied l n → once ≡ tallied l 1
     → tally (before.looked + once.looked) once.verdict ≡ tallied l (n + 1)
 one_more l n before once b o =
     ap (λ (x : Tally). tally (x.looked + once.looked) once.verdict) b
     ∙ ap (λ (x : Tally). tally (n * l.units + x.looked) x.verdict) o
     ∙ ap (λ (u : ℕ). tally u l.verdict) (sym (add-mul n 1 l.units))
-    ∙ ap (λ (x : Bool). tally ((n + 1) * l.units) (cond x More l.verdict)) (sym (not_none n))
+    ∙ ap (λ (x : Bool). tally ((n + 1) * l.units) (cond x More l.verdict)) (sym (ne_eqb (n + 1) 0 (λ e. omega (arith, e))))
 
 -- the sum of any number of searches that has 32 bits has 64
 pub fits : {Config : Type 0} (m : Machine Config) (t : Program) (q : Question) (n : ℕ) (before once : Tally)
