@@ -3,7 +3,7 @@
 use Rattle.std.proofs.Common.{◌≡◌, ℕ, zero, suc, ◌+◌, ◌≤◌, Bool, true, false, ◌&&◌, eqb, leb, ◌⊎◌, List, [], ◌∷◌, length, Some, None, Option, sym, refl, ap, ◌∙◌, subst, inl, inr, arith}
 use Rattle.std.proofs.lemmas.Bool.{and_from, le-leb, cond-true}
 use Rattle.memory.specs.declared.actions.Action.{Action}
-use Rattle.memory.specs.declared.actions.Action.TheVariants.{Local, Read, Write, Swap, Fence}
+use Rattle.memory.specs.declared.actions.Action.TheVariants.{Local, Read, Write, Swap}
 use Rattle.memory.specs.declared.shapes.Shape.{Shape}
 use Rattle.memory.specs.Fences.{lowered}
 use Rattle.memory.specs.Rules.{Message, Store, first, first_pool, start, raise, reads, after}
@@ -58,7 +58,7 @@ one_more C p Local t y = (0, λ s h. inl h)
 one_more C p (Read x) t y = (0, λ s h. inl h)
 one_more C p (Write x v) t y = (t, has_old C p x t v (raise (C.views p) x t) y)
 one_more C p (Swap x old new) t y = (t + 1, has_old C p x (t + 1) new (raise (reads C p x t) x (t + 1)) y)
-one_more C p Fence t y = (0, λ s h. inl h)
+one_more C p a t y = (0, λ s h. inl h)
 
 module _ {Place : Type 0} (shape : Shape) (G : Program Place) where
   -- messages stay to the end

@@ -3,7 +3,7 @@
 use Rattle.std.proofs.Common.{◌≡◌, ℕ, ◌+◌, ◌<◌, ◌≤◌, max, Bool, true, eqb, Some, None, Option, sym, refl, ap, ◌∙◌, subst, ap₂, subst₂, inl, inr, arith}
 use Rattle.std.proofs.lemmas.Bool.{cases_lt, cond_both, eqb-true}
 use Rattle.memory.specs.declared.actions.Action.{Action}
-use Rattle.memory.specs.declared.actions.Action.TheVariants.{Local, Read, Write, Swap, Fence}
+use Rattle.memory.specs.declared.actions.Action.TheVariants.{Local, Read, Write, Swap}
 use Rattle.memory.specs.declared.shapes.Shape.{Shape}
 use Rattle.memory.specs.Shapes.{Names}
 use Rattle.memory.specs.Rules.{View, Message, Store, join, raise, changes, or_first, message}
@@ -20,7 +20,7 @@ grows C p Local t y s h = h
 grows C p (Read x) t y s h = h
 grows C p (Write x v) t y s h = has_grows C p x t v (raise (C.views p) x t) y s h
 grows C p (Swap x old new) t y s h = has_grows C p x (t + 1) new (raise (reads C p x t) x (t + 1)) y s h
-grows C p Fence t y s h = h
+grows C p a t y s h = h
 
 -- the maximum of two timestamps is one of them
 has_max : (C : Store) (x a b : ℕ) → has C x a ≡ true → has C x b ≡ true → has C x (max a b) ≡ true
@@ -56,7 +56,7 @@ module _ (V : ℕ) (C : Store) (S : Sound V C) where
   sound p (Swap x old new) t h =
       adds_sound C p x (t + 1) new (raise (reads C p x t) x (t + 1)) V S
       (raise_has p x (t + 1) new (reads C p x t) (read_has p x t h.1.0 h.1.1))
-  sound p Fence t h = absurd h
+  sound p a t h = absurd h
 
 module _ (H : ℕ → ℕ → Bool) where
   -- the renamed timestamp of a step
@@ -65,7 +65,7 @@ module _ (H : ℕ → ℕ → Bool) where
   moved (Read x) t = at H x t
   moved (Write x v) t = at H x t
   moved (Swap x old new) t = at H x t
-  moved Fence t = t
+  moved a t = t
 
   -- what follows at the renamed timestamp
   pub record Follows (shape : Shape) (C C' : Store) (p : ℕ) (a : Action) (t : ℕ) : Type 0 where
@@ -167,4 +167,4 @@ module _ (H : ℕ → ℕ → Bool) where
       writing shape C C' L S (λ y s k. all y s (grows C p (Write x v) t y s k)) low p x v t i all h
   follows shape C C' p (Swap x old new) t L S low all i h =
       swapping shape C C' L S (λ y s k. all y s (grows C p (Swap x old new) t y s k)) low p x old new t all h
-  follows shape C C' p Fence t L S low all i h = absurd h
+  follows shape C C' p a t L S low all i h = absurd h

@@ -3,7 +3,8 @@
 ghost use Rattle.std.specs.Prelude.{Some};
 ghost use Rattle.listing.specs.Words.{refusal_words};
 
-use program::{Notice, Refusal};
+use notice::Notice;
+use program::Refusal;
 use std::fmt;
 
 // A refusal, with its number; of itself it prints only what is wrong.

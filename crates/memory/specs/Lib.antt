@@ -18,3 +18,4 @@ pub mod Admits
 pub mod Timely
 pub mod Sequenced
 pub mod Bytes
+pub mod Notices

@@ -15,6 +15,7 @@ pub mod release_acquire;
 mod rules;
 pub mod sequential;
 pub mod shapes;
+mod telling;
 mod views;
 
 pub use actions::{Action, NotOffered, Seen, Take};

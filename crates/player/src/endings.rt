@@ -3,7 +3,7 @@
 ghost use Rattle.std.specs.Prelude.{◌≡◌, Some};
 ghost use Rattle.player.specs.Answers.{end_words, lines_played};
 
-use program::Notice;
+use notice::Notice;
 use replay::{Fault, Played};
 use std::fmt;
 use wording::Amount;

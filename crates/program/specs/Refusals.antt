@@ -3,8 +3,8 @@ use Rattle.program.specs.declared.lines.Unread.{Unread}
 use Rattle.program.specs.declared.lines.Unread.TheVariants as why
 use Rattle.program.specs.declared.refusals.Refusal.{Refusal}
 use Rattle.program.specs.declared.refusals.Refusal.TheVariants.{Length, Field, Header, Order, Operand, NoTerm, NoProcess}
-use Rattle.program.specs.declared.refusals.Part.TheVariants as part
-use Rattle.program.specs.declared.refusals.Notice.{Notice}
+use Rattle.notice.specs.declared.Part.TheVariants as part
+use Rattle.notice.specs.declared.Notice.{Notice}
 
 -- lines that are not read, as a table tells it
 abbrev pub unread : Unread → Refusal

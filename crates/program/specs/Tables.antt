@@ -1,5 +1,5 @@
 -- What a table holds, and what reading into it and writing it do.
-use Rattle.std.specs.Prelude.{◌≡◌, ℕ, ◌<◌, true, false, cond, List, [], length, Some, None, Ok, Err, vec_items, Option, Result, nat_le}
+use Rattle.std.specs.Prelude.{◌≡◌, ℕ, ◌<◌, true, false, cond, List, [], length, Some, None, Ok, Err, Option, Result, nat_le}
 use Rattle.text.specs.Writing.{over}
 use Rattle.program.specs.declared.refusals.Refusal.{Refusal}
 use Rattle.program.specs.declared.refusals.Short.{Short}
@@ -9,7 +9,7 @@ use Rattle.program.specs.Program.{Program, counts_fit, is_nothing, is_term, labe
 
 -- what a table says
 abbrev pub program : Table → Program
-program t = record { counts = t.counts; rows = vec_items t.rows }
+program t = record { counts = t.counts; rows = t.rows.items }
 
 -- what is answered and what the table says then: what was read, or a refusal and what it said before
 abbrev pub taken_in : Program → Result Program Refusal → Result (Unit {0}) Refusal × Program

@@ -1,4 +1,4 @@
-ghost use Rattle.std.specs.Prelude.{◌≡◌, ◌+◌, ◌≤◌, IfOk, slice_index};
+ghost use Rattle.std.specs.Prelude.{◌≡◌, ◌+◌, ◌≤◌, slice_index};
 ghost use Rattle.program.specs.Program.{nothing, sums};
 ghost use Rattle.program.specs.Reading.{read};
 ghost use Rattle.program.specs.Source.{SaysOf};
@@ -6,9 +6,9 @@ ghost use Rattle.program.specs.Tables.{program, taken_in};
 
 use super::reading::{Parsed, parse};
 use super::refusals::Refusal;
-use super::rows::{Counts, MOST_ROWS};
+use super::rows::Counts;
 use super::tables::Table;
-use std::alloc::{AllocError, Global};
+use arrayvec::ArrayVec;
 
 // How many rows stand before those of each process, from how many name each. Written out: a loop over so few
 // would say no more, and would carry an index.
@@ -25,25 +25,26 @@ fn running_sums(labels: [u8; 5]) -> [u8; 6]
 
 impl Table {
     // A table of which nothing was read, with room for the most rows that a table can have.
-    pub fn empty(heap: Global) -> Result<Table, AllocError>
-        ensures { IfOk result (λ t. program t ≡ nothing) }
+    pub fn empty() -> Table
+        ensures { program result ≡ nothing }
     {
-        Ok(Table {
+        Table {
             counts: Counts::default(),
             starts: [0; 6],
-            rows: Vec::with_capacity(heap, MOST_ROWS)?,
-        })
+            rows: ArrayVec::new(),
+        }
     }
 
     // Holds what was read; there is room for it, so this cannot fail.
-    fn hold(&mut self, parsed: &Parsed)
-        ensures { program self.new ≡ record { counts = parsed.now.frame.counts; rows = parsed.now.rows.items } }
+    fn hold(&mut self, parsed: Parsed)
+        ensures { program self.new ≡ record { counts = parsed.frame.counts; rows = parsed.rows.items } }
     {
         let starts = running_sums(parsed.frame.labels);
-        self.rows.clear();
-        let _ = self.rows.extend_from_slice(&parsed.rows);
-        self.counts = parsed.frame.counts;
-        self.starts = starts;
+        *self = Table {
+            counts: parsed.frame.counts,
+            starts,
+            rows: parsed.rows,
+        };
     }
 
     // Reads a table from its text; a refusal leaves the table as it was.
@@ -52,7 +53,7 @@ impl Table {
         ensures words { SaysOf text.now result (program self.new) }
     {
         let parsed = parse(text)?;
-        self.hold(&parsed);
+        self.hold(parsed);
         Ok(())
     }
 }

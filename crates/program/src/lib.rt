@@ -14,6 +14,6 @@ pub mod tables;
 mod writing;
 
 pub use lines::{LINE, Unread, read_lines};
-pub use refusals::{Notice, Part, Refusal, Short};
+pub use refusals::{Refusal, Short};
 pub use rows::{Counts, Instruction, Row};
 pub use tables::Table;

@@ -2,6 +2,7 @@ ghost use Rattle.std.specs.Prelude.{◌≡◌};
 ghost use Rattle.program.specs.Refusals.{notice, unread};
 
 use super::lines::Unread;
+use notice::{Notice, Part};
 
 // Why a text is not read as a table. Lines count from 1; the header is line 1.
 #[derive(Clone, Copy, Debug, PartialEq, Eq)]
@@ -37,24 +38,6 @@ impl From<Unread> for Refusal {
 #[derive(Clone, Copy, Debug, PartialEq, Eq)]
 pub struct Short {
     pub needed: usize,
-}
-
-// The part that found what is wrong.
-#[derive(Clone, Copy, Debug, PartialEq, Eq)]
-pub enum Part {
-    Text,
-    Table,
-    Run,
-    Question,
-}
-
-// A refusal as it is told: its number, its place, 0 where no line is meant, and the part that found it. The numbers
-// are the format's, and nothing goes by them: code goes by the cases of the refusal.
-#[derive(Clone, Copy, Debug, PartialEq, Eq)]
-pub struct Notice {
-    pub number: u8,
-    pub place: u8,
-    pub part: Part,
 }
 
 impl From<Refusal> for Notice {

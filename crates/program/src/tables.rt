@@ -1,7 +1,8 @@
-ghost use Rattle.std.specs.Prelude.{◌≡◌, ◌≤◌, true, vec_capacity};
+ghost use Rattle.std.specs.Prelude.{◌≡◌, true};
 ghost use Rattle.program.specs.Program.{kept, starts_of};
 
-use super::rows::{Counts, Row};
+use super::rows::{Counts, MOST_ROWS, Row};
+use arrayvec::ArrayVec;
 
 // A program, or none yet, in rows that were reserved when the table was made. None yet is a table without rows
 // and with counts of 0: an Option around a program would be unwrapped at every look-up.
@@ -10,8 +11,7 @@ pub struct Table {
     pub(crate) counts: Counts,
     // How many rows name a process below each of 0 to 5.
     pub(crate) starts: [u8; 6],
-    pub(crate) rows: Vec<Row>,
+    pub(crate) rows: ArrayVec<Row, MOST_ROWS>,
     ghost keeps: { kept (record { counts = counts; rows = rows.items }) ≡ true },
     ghost placed: { starts ≡ starts_of rows.items },
-    ghost room: { 128 ≤ vec_capacity rows },
 }

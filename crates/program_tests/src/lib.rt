@@ -5,7 +5,8 @@
 
 #[cfg(test)]
 mod tests {
-    use program::{Instruction, Notice, Table};
+    use notice::Notice;
+    use program::{Instruction, Table};
     use std::alloc::Global;
     use std::process::Abort;
     use std::test::Fail;

@@ -1,7 +1,7 @@
 -- A fault as it is told: number, place and the part that found it; and what is offered.
 use Rattle.std.specs.Prelude.{ℕ, Some, None, Option}
-use Rattle.program.specs.declared.refusals.Part.TheVariants as part
-use Rattle.program.specs.declared.refusals.Notice.{Notice}
+use Rattle.notice.specs.declared.Part.TheVariants as part
+use Rattle.notice.specs.declared.Notice.{Notice}
 use Rattle.replay.specs.declared.faults.Fault.{Fault}
 use Rattle.replay.specs.declared.faults.Fault.TheVariants.{Length, Field, Number, Process, NoMove, Choice, Seen, Bounds, Targets}
 

@@ -3,7 +3,8 @@ ghost use Rattle.replay.specs.Notices.{notice, offer};
 ghost use Rattle.replay.specs.Playing.{unmade, unread};
 
 use memory::NotOffered;
-use program::{Notice, Part, Unread};
+use notice::{Notice, Part};
+use program::Unread;
 use worlds::Unmade;
 
 // What an accepted run has.
@@ -75,7 +76,8 @@ impl From<Fault> for Notice {
             Fault::Field { line } => (43, line, Part::Text),
             Fault::Number { line } => (51, line, Part::Run),
             Fault::Process { line } => (52, line, Part::Run),
-            Fault::NoMove { line } | Fault::Choice { line, .. } => (53, line, Part::Run),
+            Fault::NoMove { line } => (53, line, Part::Run),
+            Fault::Choice { line, refused } => (Notice::from(refused).number, line, Part::Run),
             Fault::Seen { line } => (54, line, Part::Run),
             Fault::Bounds { line } => (55, line, Part::Run),
             Fault::Targets { lines } => (56, lines, Part::Run),

@@ -6,7 +6,8 @@ ghost use Rattle.program.specs.Tables.{program};
 ghost use Rattle.rereading.specs.Turns.{repeated};
 
 use intake::{number_or, read_all};
-use program::{Notice, Refusal, Table};
+use notice::Notice;
+use program::{Refusal, Table};
 use std::{env, io};
 
 // Reads a table's text into one table over and over, and tells what came of it.

@@ -1,6 +1,6 @@
 -- Why a question is not asked, as it is told: number, place and the part that found it.
-use Rattle.program.specs.declared.refusals.Part.TheVariants as part
-use Rattle.program.specs.declared.refusals.Notice.{Notice}
+use Rattle.notice.specs.declared.Part.TheVariants as part
+use Rattle.notice.specs.declared.Notice.{Notice}
 use Rattle.runs.specs.declared.questions.Unasked.{Unasked}
 use Rattle.runs.specs.declared.questions.Unasked.TheVariants.{NoTable, Bounds, Target}
 

@@ -5,7 +5,7 @@ ghost use Rattle.runs.specs.Notices.{notice};
 ghost use Rattle.runs.specs.Words.{reason};
 
 use super::questions::Unasked;
-use program::{Notice, Part};
+use notice::{Notice, Part};
 use std::error::Error;
 use std::fmt;
 

@@ -2,7 +2,7 @@
 
 use super::tables::{STORE_BUFFERING, asked, table_of, text_of};
 use memory::{Fences, ReleaseAcquire, Sequential};
-use program::Notice;
+use notice::Notice;
 use replay::{Fault, Played, replay};
 use std::alloc::Global;
 use std::process::Abort;

@@ -2,7 +2,8 @@
 
 use super::tables::{SMALL, STORE_BUFFERING, asked, table_of};
 use memory::{Fences, Memory, ReleaseAcquire, Sequential, Shape};
-use program::{Notice, Table};
+use notice::Notice;
+use program::Table;
 use runs::{Cursor, Move, Question, Unasked, Verdict, Worked, read_question};
 use std::process::Abort;
 use std::test::Fail;

@@ -1,8 +1,8 @@
 -- A refusal as it is told: number, place and the part that found it.
 use Rattle.std.specs.Prelude.{ℕ}
-use Rattle.program.specs.declared.refusals.Part.TheVariants as part
-use Rattle.program.specs.declared.refusals.Part.{Part}
-use Rattle.program.specs.declared.refusals.Notice.{Notice}
+use Rattle.notice.specs.declared.Part.TheVariants as part
+use Rattle.notice.specs.declared.Part.{Part}
+use Rattle.notice.specs.declared.Notice.{Notice}
 use Rattle.program.specs.Refusals as table
 use Rattle.runs.specs.Notices as question
 use Rattle.replay.specs.Notices as run

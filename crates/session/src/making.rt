@@ -1,6 +1,6 @@
 // Making a session, which is the only thing that may find no memory.
 
-ghost use Rattle.std.specs.Prelude.{◌≡◌, [], IfOk};
+ghost use Rattle.std.specs.Prelude.{◌≡◌, []};
 ghost use Rattle.ceiling.specs.Ceiling.{memory as weak};
 ghost use Rattle.memory.specs.Fences.{fenced};
 ghost use Rattle.memory.specs.Sequential as sequential;
@@ -12,27 +12,26 @@ use super::sessions::Session;
 use memory::{Fences, Memory, ReleaseAcquire, Sequential, Shape};
 use program::Table;
 use runs::Cursor;
-use std::alloc::{AllocError, Global};
 
 impl<M: Memory + Drop> Session<M> {
     // A new session over a memory as it is, whether it does fences or not.
-    pub fn over(memory: M, heap: Global) -> Result<Session<M>, AllocError>
-        ensures { IfOk result (λ s. After M.machine [] (content s)) }
+    pub fn over(memory: M) -> Session<M>
+        ensures { After M.machine [] (content result) }
     {
-        Ok(Session {
-            table: Table::empty(heap)?,
+        Session {
+            table: Table::empty(),
             cursor: Cursor::over(memory),
             search: None,
-        })
+        }
     }
 }
 
 impl<M: Memory + Drop> Session<Fences<M>> {
     // A new session over the fence layer on a memory.
-    pub fn new(below: M, heap: Global) -> Result<Session<Fences<M>>, AllocError>
-        ensures { IfOk result (λ s. After (fenced M.machine) [] (content s)) }
+    pub fn new(below: M) -> Session<Fences<M>>
+        ensures { After (fenced M.machine) [] (content result) }
     {
-        Session::over(Fences { below }, heap)
+        Session::over(Fences { below })
     }
 }
 
@@ -45,17 +44,17 @@ fn least() -> Shape {
 }
 
 // A new session over sequential memory.
-pub fn sequential(heap: Global) -> Result<Session<Fences<Sequential>>, AllocError>
-    ensures { IfOk result (λ s. After (fenced sequential.machine) [] (content s)) }
+pub fn sequential() -> Session<Fences<Sequential>>
+    ensures { After (fenced sequential.machine) [] (content result) }
 {
-    Session::new(Sequential::new(least()), heap)
+    Session::new(Sequential::new(least()))
 }
 
 // A new session over release-acquire memory. What it answers once it is settled holds for runs with timestamps of any
 // size, after every series of calls.
-pub fn release_acquire(heap: Global) -> Result<Session<Fences<ReleaseAcquire>>, AllocError>
-    ensures new { IfOk result (λ s. After weak [] (content s)) }
+pub fn release_acquire() -> Session<Fences<ReleaseAcquire>>
+    ensures new { After weak [] (content result) }
     ensures free { Freed }
 {
-    Session::new(ReleaseAcquire::new(least()), heap)
+    Session::new(ReleaseAcquire::new(least()))
 }

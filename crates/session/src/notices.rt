@@ -4,7 +4,7 @@ ghost use Rattle.std.specs.Prelude.{◌≡◌};
 ghost use Rattle.session.specs.Notices.{notice};
 
 use super::refusals::Refusal;
-use program::{Notice, Part};
+use notice::{Notice, Part};
 
 // A refusal that is told at no place.
 fn placeless(number: u8, part: Part) -> Notice

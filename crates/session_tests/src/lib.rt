@@ -7,7 +7,7 @@
 #[cfg(test)]
 mod tests {
     use memory::{Fences, ReleaseAcquire};
-    use program::Notice;
+    use notice::Notice;
     use runs::{Verdict, Worked};
     use session::{Refusal, Session, Stage, Standing, release_acquire};
     use sitting::{Failure, sitting};

@@ -1,5 +1,4 @@
 pub mod Inputs
 pub mod Outputs
 pub mod Searches
-pub mod Words
 pub mod Sits

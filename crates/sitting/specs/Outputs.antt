@@ -14,8 +14,6 @@ use Rattle.session.specs.declared.refusals.Refusal.TheVariants.{Buffer}
 use Rattle.session.specs.Notices.{notice}
 use Rattle.session.specs.Series.{Call, load, put, work, blank, booked}
 use Rattle.session.specs.Answers.{loaded, opened, reported}
-use Rattle.sitting.specs.declared.failures.Failure.{Failure}
-use Rattle.sitting.specs.declared.failures.Failure.TheVariants.{NoMemory, Refused}
 use Rattle.sitting.specs.Inputs.{asked_in}
 
 -- a refusal as a line at the front of the buffer, with its length
@@ -69,16 +67,3 @@ sat_by (Err why) out = let line = told why out in (Ok line.0, line.1)
 -- the one outcome, where there is memory for a session
 abbrev pub sat_in : List ℕ → List ℕ → Result ℕ Refusal × List ℕ
 sat_in input out = cond (nat_le 625 (length out)) (sat_by (asked_in input) out) (Err Buffer, out)
-
--- A session is wanted: the buffer is long enough, and the input names a memory.
-pub record Wants (input out : List ℕ) : Type 0 where
-  pub room : 625 ≤ length out
-  pub request : Wish × List ℕ
-  pub asked_is : asked_in input ≡ Ok request
-
--- What is answered, and what a buffer holds then: the outcome x; or there is no memory for a session that is wanted, and
--- the buffer is as it was.
-abbrev pub Had : Type 0 → Result ℕ Refusal × List ℕ → List ℕ → Result ℕ Failure → List ℕ → Type 0
-Had wants x old (Ok n) new = (Ok n, new) ≡ x
-Had wants x old (Err (Refused why)) new = (Err why, new) ≡ x
-Had wants x old (Err NoMemory) new = wants × (new ≡ old)

@@ -19,7 +19,6 @@ use Rattle.runs.specs.Asked.{Asks, judged, meets}
 use Rattle.session.specs.declared.refusals.Refusal.{Refusal}
 use Rattle.session.specs.Contents.{if_found}
 use Rattle.session.specs.Words.{Known, report_of}
-use Rattle.sitting.specs.declared.failures.Failure.{Failure}
 use Rattle.sitting.specs.Inputs.{asked_in}
 
 -- The text is a table's, of which the question can be asked.
@@ -55,12 +54,12 @@ abbrev pub SitsOver : Kind → Wish → List ℕ → List ℕ → ℕ → List �
 SitsOver Sequential w text out n new = (t : Program) → Accepts w text t → Reports (fenced sequential.machine) 1 w t out n new
 SitsOver ReleaseAcquire w text out n new = (t : Program) → Accepts w text t → Weakly w t out n new
 
-abbrev pub SeatSays : Wish → List ℕ → List ℕ → Result ℕ Failure → List ℕ → Type 0
+abbrev pub SeatSays : Wish → List ℕ → List ℕ → Result ℕ Refusal → List ℕ → Type 0
 SeatSays w text out (Ok n) new = SitsOver w.memory w text out n new
 SeatSays w text out (Err why) new = new ≡ out
 
 -- what is written for an input
-abbrev pub SittingSays : List ℕ → List ℕ → Result ℕ Failure → List ℕ → Type 0
+abbrev pub SittingSays : List ℕ → List ℕ → Result ℕ Refusal → List ℕ → Type 0
 SittingSays input out (Ok n) new =
     (w : Wish) (text : List ℕ) → asked_in input ≡ Ok (w, text) → SitsOver w.memory w text out n new
 SittingSays input out (Err why) new = new ≡ out

@@ -3,10 +3,8 @@
 #![tactic(auto)]
 
 mod asking;
-pub mod failures;
 mod searching;
 mod sittings;
 mod telling;
 
-pub use failures::Failure;
 pub use sittings::{sit, sitting};

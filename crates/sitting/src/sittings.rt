@@ -1,15 +1,13 @@
 ghost use Rattle.std.specs.Prelude.{◌≡◌, ◌≤◌, length, IfOk};
 ghost use Rattle.sitting.specs.Sits.{SeatSays, Sits, SittingSays};
-ghost use Rattle.sitting.specs.Outputs.{answered, sat, sat_in, sat_over, Had, Wants};
+ghost use Rattle.sitting.specs.Outputs.{answered, sat, sat_in, sat_over};
 
 use super::asking::cut;
-use super::failures::Failure;
 use super::searching::search;
 use super::telling::tell;
 use memory::{Kind, Memory};
 use runs::Wish;
 use session::{Refusal, Session, release_acquire, sequential};
-use std::alloc::Global;
 
 // The least room of a buffer: as many lines as a report can have.
 const LEAST: usize = 625;
@@ -64,28 +62,28 @@ pub fn sit<M: Memory + Drop>(
 }
 
 // A sitting in a new session over the memory that is wished for.
-fn seat(heap: Global, wish: Wish, text: &[u8], out: &mut [u8]) -> Result<usize, Failure>
-    ensures outcome { Had (Unit {0}) (sat_over wish.memory wish text.now out.old) out.old result out.new }
+fn seat(wish: Wish, text: &[u8], out: &mut [u8]) -> Result<usize, Refusal>
+    ensures outcome { (result, out.new) ≡ sat_over wish.memory wish text.now out.old }
     ensures bound { IfOk result (λ n. n ≤ length out.old) }
     ensures words { SeatSays wish text.now out.old result out.new }
 {
     match wish.memory {
-        Kind::Sequential => Ok(sit(sequential(heap)?, wish, text, out)?),
-        Kind::ReleaseAcquire => Ok(sit(release_acquire(heap)?, wish, text, out)?),
+        Kind::Sequential => sit(sequential(), wish, text, out),
+        Kind::ReleaseAcquire => sit(release_acquire(), wish, text, out),
     }
 }
 
 // A sitting of its own, from an input to a buffer. It answers how many bytes it wrote.
-pub fn sitting(heap: Global, input: &[u8], out: &mut [u8]) -> Result<usize, Failure>
-    ensures outcome { Had (Wants input.now out.old) (sat_in input.now out.old) out.old result out.new }
+pub fn sitting(input: &[u8], out: &mut [u8]) -> Result<usize, Refusal>
+    ensures outcome { (result, out.new) ≡ sat_in input.now out.old }
     ensures bound { IfOk result (λ n. n ≤ length out.old) }
     ensures words { SittingSays input.now out.old result out.new }
 {
     if out.len() < LEAST {
-        return Err(Failure::Refused(Refusal::Buffer));
+        return Err(Refusal::Buffer);
     }
     match cut(input) {
-        Ok(request) => seat(heap, request.wish, request.text, out),
+        Ok(request) => seat(request.wish, request.text, out),
         Err(why) => Ok(tell(why, out)),
     }
 }

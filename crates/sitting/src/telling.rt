@@ -1,7 +1,7 @@
 ghost use Rattle.std.specs.Prelude.{◌≡◌, ◌≤◌, length};
 ghost use Rattle.sitting.specs.Outputs.{told};
 
-use program::Notice;
+use notice::Notice;
 use session::Refusal;
 use text::write_line;
 

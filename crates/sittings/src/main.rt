@@ -8,7 +8,7 @@ mod cases;
 use anyhow::Result;
 use cases::{Case, first_case};
 use intake::read_all;
-use program::Notice;
+use notice::Notice;
 use sitting::{Failure, sitting};
 
 // Prints the number of bytes that a case's sitting writes, and then these; or its refusal.

@@ -1,4 +1,4 @@
-use Rattle.std.proofs.Common.{ℕ, eqb, sym, ap, ◌∙◌}
+use Rattle.std.proofs.Common.{sym, ◌∙◌}
 use Rattle.program.specs.Tables.{program}
 use Rattle.program.proofs.Blocks.{blocks}
 use Rattle.program.proofs.Starts.{kept_proper}
@@ -7,5 +7,5 @@ use Rattle.program.proofs.tables.Table.is_empty.Goals as goal
 pub returns-clause-words : goal.returns-clause-words
 returns-clause-words c e =
     let t = c.args.self.now in
-    let some = sym (c.is_empty.ensures ∙ ap (λ (n : ℕ). eqb n 0) t.rows.ok.0) ∙ e in
+    let some = sym c.is_empty.ensures ∙ e in
     blocks (program t) (kept_proper (program t) t.keeps some)

@@ -33,4 +33,4 @@ returns c =
     let high = next_at t.starts rows t.placed c.from-at.result (omega arith) in
     let first : c.from-first.result ≡ rows_below rows c.args.process = c.from-first.ensures ∙ low ∙ ap (λ (q : ℕ). rows_below rows q) at in
     let count : c.from-end.result - c.from-first.result ≡ labels_of rows c.args.process = ap (λ (n : ℕ). c.from-end.result - n) (c.from-first.ensures ∙ low) ∙ omega (arith, high) ∙ ap (λ (q : ℕ). labels_of rows q) at in
-    rw (count, first, c.deref.ensures.value) refl
+    rw (count, first, c.deref.ensures.0) refl

@@ -1,0 +1,26 @@
+ghost use Rattle.std.specs.Prelude.{take, IfSome, OnOk};
+ghost use Rattle.yuktrad.specs.Printing.{Prints};
+
+use intake::read_all;
+use sitting::sitting;
+use std::alloc::Global;
+use std::io;
+use std::io::{Read, Write};
+
+// The most bytes that are looked at: one more than a sitting takes, so that a longer input is seen to be too long.
+const MOST: u64 = 4001;
+
+// As many bytes as a sitting writes at most.
+const ROOM: usize = 625;
+
+// Does a sitting on what a reader gives, and writes what it writes.
+pub fn serve<R: Read, W: Write>(heap: Global, input: &mut R, output: &mut W) -> io::Result<()>
+    ensures { OnOk result (IfSome (R.remaining input.old) (λ given. Prints (take 4001 given) (W.contents output.old) (W.contents output.new))) }
+{
+    let given = read_all(heap, &mut input.take(MOST))?;
+    let mut out = [0; ROOM];
+    match sitting(given.as_slice(), &mut out) {
+        Ok(written) => output.write_all(&out[..written]),
+        Err(_) => unreachable(),
+    }
+}
