@@ -2,7 +2,7 @@
 
 #![tactic(auto)]
 
-ghost use Rattle.std.specs.Prelude.{◌≡◌, IfOk, IfSome, MatchOption, string_bytes};
+ghost use Rattle.std.specs.Prelude.{◌≡◌, take, IfOk, IfSome, MatchOption, string_bytes};
 ghost use Rattle.intake.specs.Numbers.{WordOr};
 
 use std::alloc::Global;
@@ -16,6 +16,13 @@ pub fn read_all<R: Read>(heap: Global, reader: &mut R) -> io::Result<Vec<u8>>
     let mut bytes = Vec::new(heap);
     reader.read_to_end(&mut bytes)?;
     Ok(bytes)
+}
+
+// The first bytes that a reader has left, at most so many.
+pub fn read_most<R: Read>(heap: Global, reader: &mut R, most: u64) -> io::Result<Vec<u8>>
+    ensures { IfOk result (λ v. IfSome (R.remaining reader.old) (λ bytes. v.items ≡ take most bytes)) }
+{
+    read_all(heap, &mut reader.take(most))
 }
 
 // The number that a word writes, or another one where there is no word or it writes none.
