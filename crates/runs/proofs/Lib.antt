@@ -13,3 +13,4 @@ pub mod Looks
 pub mod Works
 pub mod Asked
 pub mod Judged
+pub mod Splits

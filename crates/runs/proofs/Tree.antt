@@ -53,7 +53,7 @@ module _ {W : Type 0} (S : System W) where
   path_at d [] = sym (append-nil d.path)
   path_at d (x ∷ s) = path_at (child S d x) s ∙ append_assoc d.path (x ∷ []) s
 
-  less_is : (n : ℕ) → less n ≡ n - 1
+  pub less_is : (n : ℕ) → less n ≡ n - 1
   less_is zero = omega arith
   less_is (suc n) = omega arith
 

@@ -1,5 +1,5 @@
 -- The runs within bounds, as a list, over any processes with choices. No memory and no program in sight.
-use Rattle.std.specs.Prelude.{ℕ, zero, suc, ◌+◌, ◌-◌, ◌<◌, ◌≤◌, true, false, cond, List, [], ◌∷◌, ◌++◌, nat_le}
+use Rattle.std.specs.Prelude.{ℕ, zero, suc, ◌+◌, ◌-◌, ◌<◌, ◌≤◌, Bool, true, false, cond, ◌&&◌, List, [], ◌∷◌, ◌++◌, nat_le, nat_lt}
 use Rattle.ceiling.specs.declared.moves.Move.{Move}
 use Rattle.ceiling.specs.Programs.{Event, offered_from, story_from, end_from, switches}
 
@@ -30,6 +30,11 @@ module _ {W : Type 0} (S : System W) where
   -- from w the moves r can be made, one after the other
   abbrev pub IsRun : W → List Move → Type 0
   IsRun = offered_from S.offer S.next
+
+  -- whether they can
+  abbrev pub is_run : W → List Move → Bool
+  is_run w [] = true
+  is_run w (k ∷ ks) = nat_lt k.choice (S.offer w k.process) && is_run (S.next w k) ks
 
   -- where they lead
   abbrev pub end_of : W → List Move → W

@@ -2,6 +2,7 @@ ghost use Rattle.std.specs.Prelude.{◌≡◌, []};
 ghost use Rattle.program.specs.Tables.{program};
 ghost use Rattle.worlds.specs.Places.{beginning};
 ghost use Rattle.worlds.specs.Worlds.{world as stand};
+ghost use Rattle.runs.specs.declared.verdicts.Verdict.TheVariants as verdict;
 ghost use Rattle.runs.specs.Cursors.{Sound};
 ghost use Rattle.runs.specs.Listed.{TotalOrder};
 ghost use Rattle.runs.specs.Paths.{path};
@@ -34,6 +35,8 @@ impl<M: Memory> Cursor<M> {
     // A search for a question about a table, at the first run of the list.
     pub fn begin(&self, table: &Table, question: Question) -> Search
         ensures question { result.question ≡ question }
+        ensures undecided { result.verdict ≡ verdict.More }
+        ensures run { path result.run ≡ [] }
         ensures since { Since M.machine (program table.now) result 0 0 }
         ensures list { HasList M.machine (program table.now) M.WIDEST question }
         ensures order { TotalOrder }

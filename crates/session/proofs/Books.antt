@@ -1,5 +1,5 @@
 -- What a series of calls amounts to, one call after another.
-use Rattle.std.proofs.Common.{◌≡◌, ℕ, ◌+◌, true, false, ◌&&◌, List, [], ◌∷◌, ◌++◌, length, Some, None, Ok, Err, Option, Result, leb, refl, sym, subst, arith}
+use Rattle.std.proofs.Common.{◌≡◌, ℕ, ◌+◌, true, false, ◌&&◌, List, [], ◌∷◌, ◌++◌, length, Some, None, Ok, Err, Option, Result, leb, refl, sym, ap, ◌∙◌, arith}
 use Rattle.std.proofs.lemmas.Bool.{and_parts, cond_both, ne_eqb, or_right}
 use Rattle.memory.specs.Machine.{Machine}
 use Rattle.program.specs.declared.refusals.Refusal.{Refusal as Unreadable}
@@ -11,7 +11,7 @@ use Rattle.runs.specs.declared.questions.Unasked.{Unasked}
 use Rattle.runs.specs.Asked.{judged, question_by}
 use Rattle.session.specs.Contents.{Content}
 use Rattle.session.specs.Series.{Call, Book, load, put, work, standing, step, replay, report, blank, held, asked, load_on, put_by, next, from, booked}
-use Rattle.session.specs.Law.{Holds, Lawful}
+use Rattle.session.specs.Law.{content_of, Lawful}
 
 pub from_more : (b : Book) (h : List Call) (c : Call) → from b (h ++ (c ∷ [])) ≡ next (from b h) c
 from_more b [] c = refl
@@ -68,10 +68,10 @@ sound h = sound_from blank h tt
 
 -- what holds for every book holds after every series
 pub lawful : {A Config : Type 0} (m : Machine Config) (c : Call) (answer : Book → A) (old : Content) (a : A) (new : Content)
-    → ((b : Book) → Sound b → Holds m b old → Holds m (next b c) new × (a ≡ answer b)) → Lawful m c answer old a new
+    → ((b : Book) → Sound b → old ≡ content_of m b → (a ≡ answer b) × (new ≡ content_of m (next b c))) → Lawful m c answer old a new
 lawful m c answer old a new f = record {
-  after = λ h s. subst (λ (b : Book). Holds m b new) (sym (from_more blank h c)) (f (booked h) (sound h) s).0;
-  answers = λ h s. (f (booked h) (sound h) s).1;
+  after = λ h s. (f (booked h) (sound h) s).1 ∙ ap (content_of m) (sym (from_more blank h c));
+  answers = λ h s. (f (booked h) (sound h) s).0;
 }
 
 -- a table with all the properties keeps what every table keeps

@@ -1,5 +1,5 @@
 -- The ceiling of release-acquire memory loses nothing, whatever calls there were.
-use Rattle.std.proofs.Common.{◌≡◌, ℕ, ◌↔◌, true, List, Some, refl, sym, ap, subst}
+use Rattle.std.proofs.Common.{◌≡◌, ℕ, ◌↔◌, true, List, [], Some, refl, sym, ap, ◌∙◌, subst}
 use Rattle.memory.specs.Bytes.{SeesBytes}
 use Rattle.memory.specs.Bytes as bytes
 use Rattle.memory.specs.Fenced.{leads_below, lowered_takes}
@@ -26,11 +26,14 @@ use Rattle.runs.proofs.Asked.{asks_of}
 use Rattle.runs.proofs.Works.{tells_by}
 use Rattle.replay.proofs.Fits.{end_sound}
 use Rattle.session.specs.declared.standings.Stage.TheVariants as stage
-use Rattle.session.specs.Outcomes.{stage_by}
+use Rattle.session.specs.Outcomes.{content_after, stage_by}
 use Rattle.session.specs.Series.{Book, blank, held, asked, booked}
+use Rattle.session.specs.Contents.{Content}
 use Rattle.session.specs.Free.{Low, Timeless, IfAsked, Freed}
+use Rattle.session.specs.Law.{After, content_of}
 use Rattle.session.proofs.Books.{Asking, Sound, proper_kept, sound}
 use Rattle.session.proofs.Knows.{found_some}
+use Rattle.session.proofs.Laws.{after_value}
 
 module _ (t : Program) (q : Question) (good : proper t ≡ true) (asking : Asking t q) where
   asks : Asks t asking.steps asking.switches asking.targets q
@@ -89,16 +92,17 @@ module _ (t : Program) (q : Question) (good : proper t ≡ true) (asking : Askin
         seen = seen_low t.counts.processes t.counts.variables n q.shape by end.config timely.0 timely.1;
       })
 
-  pub timeless : (E : ℕ) → Timeless t q E
+  pub timeless : (E : ℕ) → Timeless (content_of memory (asked t q E)) q
   timeless E =
       let l = shown memory t q E in
       let tells = tells_by memory t q E l.units l.verdict (front l.left) refl refl (λ _. refl) in
       record { settled = by_stage l.verdict (front l.left) tells.settled; low = run_low }
 
-pub freed : Freed
-freed h = go (booked h) (sound h)
+-- where a session is led by any calls that was new
+pub freed : (c : Content) → After memory [] c → Freed c
+freed c new h = subst (λ (x : Content). IfAsked x x.inquiry) (sym (ap (λ (x : Content). content_after memory x h) new ∙ after_value memory blank h)) (go (booked h) (sound h))
   where
-    go : (b : Book) → Sound b → IfAsked b Timeless
+    go : (b : Book) → Sound b → IfAsked (content_of memory b) (content_of memory b).inquiry
     go blank s = tt
     go (held t) s = tt
     go (asked t q E) s = timeless t q s.0 s.1 E

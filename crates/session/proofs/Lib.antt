@@ -7,3 +7,4 @@ pub mod Knows
 pub mod Tellings
 pub mod Laws
 pub mod Frees
+pub mod Values

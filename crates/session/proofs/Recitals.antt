@@ -11,10 +11,8 @@ use Rattle.program.specs.Program.{Program}
 use Rattle.worlds.specs.declared.places.Place.{Place}
 use Rattle.worlds.specs.declared.records.Record.{Record}
 use Rattle.worlds.specs.Worlds.{over, record_of}
-use Rattle.runs.specs.declared.searches.Search.{Search}
-use Rattle.runs.specs.Paths.{path}
 use Rattle.runs.proofs.Works.{narrow}
-use Rattle.session.specs.Contents.{if_found, steps_by}
+use Rattle.session.specs.Contents.{Inquiry, if_found, steps_by}
 use Rattle.session.specs.Recited.{recited, InField}
 
 module _ {Config : Type 0} (m : Machine Config) (t : Program) where
@@ -40,7 +38,7 @@ module _ {Config : Type 0} (m : Machine Config) (t : Program) where
       go later false e = tt
 
   pub steps_small : (widest : ℕ) → ((s : Config) (p : ℕ) (a : Action) → m.offer s p a ≤ widest) → widest ≤ 9999
-      → (o : Option Search) → AllByRecursion InField (steps_by m t o)
-  steps_small widest few low (Some s) =
-      recited_small widest few low (opening m (over t) s.question.shape) (if_found s.verdict (path s.run))
+      → (o : Option Inquiry) → AllByRecursion InField (steps_by m t o)
+  steps_small widest few low (Some i) =
+      recited_small widest few low (opening m (over t) i.question.shape) (if_found i.verdict i.run)
   steps_small widest few low None = tt

@@ -1,6 +1,7 @@
 -- What the calls answer after any series of them, in a reader's words.
 -- By the law an answer is that of what the calls amount to; what is known of a question then (Knows) says the rest.
-use Rattle.std.proofs.Common.{◌≡◌, ℕ, ◌+◌, ◌≤◌, Bool, true, false, cond, List, [], ◌∷◌, ◌++◌, length, Ok, Err, Option, Result, nat_le, refl, sym, ap, ap₂, ◌∙◌, subst, arith}
+use Rattle.std.proofs.lemmas.Bool.{and_from, and_parts, both_ways, cases_lt, le-leb, leb-false, leb-true}
+use Rattle.std.proofs.Common.{◌≡◌, ℕ, ◌+◌, ◌<◌, ◌≤◌, ◌⊎◌, leb, inl, inr, Bool, true, false, cond, List, [], ◌∷◌, ◌++◌, length, Ok, Err, Option, Result, nat_le, refl, sym, ap, ap₂, ◌∙◌, subst, arith}
 use Rattle.text.specs.Lines.{line_text}
 use Rattle.text.specs.Writing.{over as written_over}
 use Rattle.memory.specs.declared.actions.Action.{Action}
@@ -16,29 +17,30 @@ use Rattle.runs.specs.declared.verdicts.Verdict.{Verdict}
 use Rattle.runs.specs.declared.verdicts.Verdict.TheVariants.{More, Found, None}
 use Rattle.runs.specs.declared.verdicts.Worked.{Worked}
 use Rattle.runs.specs.declared.questions.Unasked.{Unasked}
+use Rattle.runs.specs.declared.questions.Unasked.TheVariants.{NoTable}
+use Rattle.runs.specs.Askable.{Judges}
 use Rattle.runs.specs.Asked.{judged, root, system}
 use Rattle.runs.specs.First.{front}
 use Rattle.runs.specs.Runs.{list, switches_of}
 use Rattle.runs.specs.Searches.{hits, shown}
 use Rattle.runs.proofs.Judged.{judges}
 use Rattle.runs.proofs.Looks.{look_rises}
-use Rattle.replay.specs.declared.faults.Fault.{Fault}
 use Rattle.replay.specs.declared.faults.Played.{Played}
 use Rattle.replay.specs.Playing.{mark_number, played, record_fields}
-use Rattle.replay.specs.Written.{run_fields, Says}
+use Rattle.replay.specs.Written.{run_fields}
 use Rattle.replay.proofs.Says.{says}
 use Rattle.session.specs.declared.refusals.Refusal.{Refusal}
 use Rattle.session.specs.declared.refusals.Refusal.TheVariants as refusal
 use Rattle.session.specs.declared.standings.Standing.{Standing}
 use Rattle.session.specs.declared.steps.Step.{Step}
 use Rattle.session.specs.Contents.{if_found}
-use Rattle.session.specs.Outcomes.{as_run, stage_by}
+use Rattle.session.specs.Outcomes.{stage_by}
 use Rattle.session.specs.Recited.{records_of}
 use Rattle.session.specs.Reports.{numbered, report_text, switches_in, verdict_fields}
 use Rattle.session.specs.Series.{Call, Book, blank, held, asked, booked}
 use Rattle.session.specs.Answers.{added, as_question, opened, replayed, reported, stepped, stood, text_after, worked}
 use Rattle.session.specs.Spent.{spent}
-use Rattle.session.specs.Words.{OfNothing, OfQuestion, OfTable, Known, PutBy, PutSays, ReplaySays, ReportSays, StageSays, StandingSays, StepBy, StepSays, WorkSays, report_of, table_of}
+use Rattle.session.specs.Words.{Fills, OfNothing, OfQuestion, OfTable, Known, PutSays, ReplayBy, ReplaySays, ReportBy, ReportSays, StageSays, StandingSays, StepBy, StepSays, WorkBy, WorkSays, report_of, table_of}
 use Rattle.session.proofs.Books.{Sound, proper_kept, sound}
 use Rattle.session.proofs.Knows.{known, spent_is, units_at}
 
@@ -49,12 +51,12 @@ ok_one e = cc
 pub put_says : (h : List Call) (n k : ℕ) (targets : List ℕ) (r : Result (Unit {0}) Refusal) → r ≡ opened (booked h) n k targets → PutSays h n k targets r
 put_says h n k targets r e = subst (PutSays h n k targets) (sym e) (by (booked h))
   where
-    judged_by : (t : Program) (x : Result (Unit {0}) Unasked) → judged t n k targets ≡ x → PutBy t n k targets (as_question x)
-    judged_by t (Ok u) e = judges t n k targets (Ok tt) e
-    judged_by t (Err why) e = judges t n k targets (Err why) e
+    judged_by : (t : Program) (x : Result (Unit {0}) Unasked) → judged t n k targets ≡ x
+        → (y : Result (Unit {0}) Unasked) × (as_question x ≡ as_question y) × Judges t n k targets y
+    judged_by t x e = (x, refl, judges t n k targets x e)
 
-    by : (b : Book) → PutBy (table_of b) n k targets (opened b n k targets)
-    by blank = refl
+    by : (b : Book) → (y : Result (Unit {0}) Unasked) × (opened b n k targets ≡ as_question y) × Judges (table_of b) n k targets y
+    by blank = (Err NoTable, refl, refl)
     by (held t) = judged_by t (judged t n k targets) refl
     by (asked t q E) = judged_by t (judged t n k targets) refl
 
@@ -92,32 +94,48 @@ module _ {Config : Type 0} (m : Machine Config) (widest : ℕ) (bounded : (s : C
   of_question P t q E e p = subst (λ (b : Book). OfQuestion b P) (sym e) p
 
   work_asked : (e : ℕ) (w : Worked) (t : Program) (q : Question) (E : ℕ) → booked h ≡ asked t q E
-      → w ≡ added (shown m t q E) (shown m t q (E + e)) → WorkSays m widest h e (Ok w)
+      → w ≡ added (shown m t q E) (shown m t q (E + e))
+      → Known m widest t q (E + e) (spent m h + w.units) w.verdict (front (shown m t q (E + e)).left)
   work_asked e w t q E is same =
       let l = shown m t q (E + e) in
       let before : spent m h ≡ (shown m t q E).units = spent_is m h ∙ ap (units_at m) is in
       let units : l.units ≡ spent m h + w.units =
       omega (arith, ap (λ (x : Worked). x.units) same, look_rises (hits m t q) E e (list (system m t) (root m t q))) in
       let verdict : l.verdict ≡ w.verdict = sym (ap (λ (x : Worked). x.verdict) same) in
-      of_question (λ t q E. (r : List Move) × Known m widest t q (E + e) (spent m h + w.units) w.verdict r) t q E is (
-        front l.left,
-        subst (λ (v : Verdict). Known m widest t q (E + e) (spent m h + w.units) v (front l.left)) verdict
-            (subst (λ (u : ℕ). Known m widest t q (E + e) u l.verdict (front l.left)) units (known m widest bounded t q (E + e))),
-      )
+      subst (λ (v : Verdict). Known m widest t q (E + e) (spent m h + w.units) v (front l.left)) verdict
+      (subst (λ (u : ℕ). Known m widest t q (E + e) u l.verdict (front l.left)) units (known m widest bounded t q (E + e)))
+
+  -- an effort is taken or not
+  out_of_range : (e : ℕ) → within 1 1000000 e ≡ false → (e ≡ 0) ⊎ (1000000 < e)
+  out_of_range e out = elim (cases_lt e 1) [
+    | inl l ↦ inl (omega arith)
+    | inr g ↦ elim (cases_lt 1000000 e) [
+      | inl l ↦ inr l
+      | inr k ↦ absurd (let yes : within 1 1000000 e ≡ true = and_from (leb 1 e) (leb e 1000000) (le-leb 1 e g) (le-leb e 1000000 k) in both_ways (within 1 1000000 e) out yes)
+    ]
+  ]
 
   pub work_says : (e : ℕ) (r : Result Worked Refusal) → r ≡ worked m (booked h) e → WorkSays m widest h e r
-  work_says e (Err told) same = tt
-  work_says e (Ok w) same = go (booked h) refl (same)
+  work_says e r same = go (booked h) refl same
     where
-      by : (b : Bool) (t : Program) (q : Question) (E : ℕ) → booked h ≡ asked t q E
-          → Ok w ≡ cond b (Ok (added (shown m t q E) (shown m t q (E + e)))) (Err refusal.Effort) → WorkSays m widest h e (Ok w)
-      by true t q E is s = work_asked e w t q E is (ok_one s)
-      by false t q E is s = cc
+      by : (b : Bool) (t : Program) (q : Question) (E : ℕ) → booked h ≡ asked t q E → within 1 1000000 e ≡ b
+          → r ≡ cond b (Ok (added (shown m t q E) (shown m t q (E + e)))) (Err refusal.Effort) → WorkBy m widest h (asked t q E) e r
+      by true t q E is may s =
+          let w = added (shown m t q E) (shown m t q (E + e)) in
+          let range = and_parts (leb 1 e) (leb e 1000000) may in
+          inl (record {
+            effort = (leb-true 1 e range.0, leb-true e 1000000 range.1);
+            worked = w;
+            is = s;
+            run = front (shown m t q (E + e)).left;
+            known = work_asked e w t q E is refl;
+          })
+      by false t q E is out s = inr (out_of_range e out, s)
 
-      go : (b : Book) → booked h ≡ b → Ok w ≡ worked m b e → WorkSays m widest h e (Ok w)
-      go blank is s = cc
-      go (held t) is s = cc
-      go (asked t q E) is s = by (within 1 1000000 e) t q E is s
+      go : (b : Book) → booked h ≡ b → r ≡ worked m b e → WorkBy m widest h b e r
+      go blank is s = s
+      go (held t) is s = s
+      go (asked t q E) is s = by (within 1 1000000 e) t q E is refl s
 
   stage_known : (t : Program) (q : Question) (E : ℕ) → booked h ≡ asked t q E → (v : Verdict) (r : List Move) → Known m widest t q E (spent m h) v r
       → StageSays m widest h (stage_by v) (length (if_found v r))
@@ -144,40 +162,32 @@ module _ {Config : Type 0} (m : Machine Config) (widest : ℕ) (bounded : (s : C
   pub report_says : (out new : List ℕ) (r : Result ℕ Refusal) → (r, new) ≡ reported m (booked h) out → ReportSays m widest h out r new
   report_says out new r same = go (booked h) refl same
     where
-      whole : (t : Program) (q : Question) (E : ℕ) → booked h ≡ asked t q E → (text : List ℕ) → text ≡ text_after m t q E
-          → ◌≡◌ {A = Result ℕ Refusal × List ℕ} (r, new) (Ok (length text), written_over text out) → ReportSays m widest h out r new
-      whole t q E is text e s =
+      filled : (b : Bool) (text : List ℕ) → nat_le (length text) (length out) ≡ b
+          → ◌≡◌ {A = Result ℕ Refusal × List ℕ} (r, new) (cond b (Ok (length text), written_over text out) (Err (refusal.Short (length text)), out)) → Fills text out r new
+      filled true text room s =
+          inl (leb-true (length text) (length out) room, ap (λ (y : Result ℕ Refusal × List ℕ). y.0) s, ap (λ (y : Result ℕ Refusal × List ℕ). y.1) s)
+      filled false text short s =
+          inr (leb-false (length text) (length out) short, ap (λ (y : Result ℕ Refusal × List ℕ). y.0) s, ap (λ (y : Result ℕ Refusal × List ℕ). y.1) s)
+
+      go : (b : Book) → booked h ≡ b → (r, new) ≡ reported m b out → ReportBy m widest h b out r new
+      go blank is s = (ap (λ (y : Result ℕ Refusal × List ℕ). y.0) s, ap (λ (y : Result ℕ Refusal × List ℕ). y.1) s)
+      go (held t) is s = (ap (λ (y : Result ℕ Refusal × List ℕ). y.0) s, ap (λ (y : Result ℕ Refusal × List ℕ). y.1) s)
+      go (asked t q E) is s =
           let l = shown m t q E in
-          let v = l.verdict in
-          let x = front l.left in
-          let bytes : text ≡ report_of m t q v (if_found v x) = e ∙ report_is m t q v (if_found v x) in
-          subst (λ (y : Result ℕ Refusal × List ℕ). ReportSays m widest h out y.0 y.1) (sym s)
-          (of_question (λ t q E. (r : List Move) × ((v : Verdict) × Known m widest t q E (spent m h) v r
-          × (length text ≡ length (report_of m t q v (if_found v r))) × (written_over text out ≡ written_over (report_of m t q v (if_found v r)) out)))
-          t q E is (x, (v, known_after t q E is, ap length bytes, ap (λ (z : List ℕ). written_over z out) bytes)))
-
-      kept_as : (told : Refusal) → ◌≡◌ {A = Result ℕ Refusal × List ℕ} (r, new) (Err told, out) → ReportSays m widest h out r new
-      kept_as told s = subst (λ (y : Result ℕ Refusal × List ℕ). ReportSays m widest h out y.0 y.1) (sym s) refl
-
-      by : (b : Bool) (t : Program) (q : Question) (E : ℕ) → booked h ≡ asked t q E → (text : List ℕ) → text ≡ text_after m t q E
-          → ◌≡◌ {A = Result ℕ Refusal × List ℕ} (r, new) (cond b (Ok (length text), written_over text out) (Err (refusal.Short (length text)), out)) → ReportSays m widest h out r new
-      by true t q E is text e s = whole t q E is text e s
-      by false t q E is text e s = kept_as (refusal.Short (length text)) s
-
-      go : (b : Book) → booked h ≡ b → (r, new) ≡ reported m b out → ReportSays m widest h out r new
-      go blank is s = kept_as refusal.ReportUnasked s
-      go (held t) is s = kept_as refusal.ReportUnasked s
-      go (asked t q E) is s = by (nat_le (length (text_after m t q E)) (length out)) t q E is (text_after m t q E) refl s
+          let text = text_after m t q E in
+          record {
+            verdict = l.verdict;
+            run = front l.left;
+            known = known_after t q E is;
+            written = subst (λ (z : List ℕ). Fills z out r new) (report_is m t q l.verdict (if_found l.verdict (front l.left)))
+                (filled (nat_le (length text) (length out)) text refl s);
+          }
 
   module _ (few : widest ≤ 9999) (bytes : SeesBytes m) where
     pub replay_says : (text : List ℕ) (r : Result Played Refusal) → r ≡ replayed m (booked h) text → ReplaySays m h text r
-    replay_says text r same = subst (ReplaySays m h text) (sym same) (go (booked h) refl (sound h))
+    replay_says text r same = go (booked h) (sound h) same
       where
-        by : (t : Program) (q : Question) (E : ℕ) → booked h ≡ asked t q E → (x : Result Played Fault) → Says m t q text x → ReplaySays m h text (as_run x)
-        by t q E is (Ok p) s = of_question (λ t q E. Says m t q text (Ok p)) t q E is s
-        by t q E is (Err fault) s = of_question (λ t q E. Says m t q text (Err fault)) t q E is s
-
-        go : (b : Book) → booked h ≡ b → Sound b → ReplaySays m h text (replayed m b text)
-        go blank is good = λ x. subst (λ (b : Book). OfQuestion b (λ t q E. Unit {0})) is x
-        go (held t) is good = λ x. subst (λ (b : Book). OfQuestion b (λ t q E. Unit {0})) is x
-        go (asked t q E) is good = by t q E is (played m t q text) (says m t q (proper_kept t good.0) widest bounded few bytes text)
+        go : (b : Book) → Sound b → r ≡ replayed m b text → ReplayBy m b text r
+        go blank good s = s
+        go (held t) good s = s
+        go (asked t q E) good s = (played m t q text, s, says m t q (proper_kept t good.0) widest bounded few bytes text)

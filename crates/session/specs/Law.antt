@@ -3,29 +3,25 @@ use Rattle.std.specs.Prelude.{◌≡◌, ℕ, List, [], ◌∷◌, ◌++◌, Som
 use Rattle.memory.specs.Machine.{Machine}
 use Rattle.program.specs.Program.{Program, nothing}
 use Rattle.runs.specs.declared.questions.Question.{Question}
-use Rattle.runs.specs.declared.searches.Search.{Search}
-use Rattle.runs.specs.Searches.{Since, shown}
-use Rattle.session.specs.Contents.{Content}
+use Rattle.runs.specs.First.{front}
+use Rattle.runs.specs.Searches.{shown}
+use Rattle.session.specs.Contents.{Content, Inquiry}
 use Rattle.session.specs.Series.{Call, Book, blank, held, asked, booked}
 
 module _ {Config : Type 0} (m : Machine Config) where
-  -- the session's search stands where works with these efforts have brought it
-  pub record Searched (t : Program) (q : Question) (E : ℕ) (c : Content) : Type 0 where
-    pub table : c.table ≡ t
-    pub search : Search
-    pub held_is : c.search ≡ Some search
-    pub question : search.question ≡ q
-    pub since : Since m t search E (shown m t q E).units
+  -- what the first E runs of the list show of a question, and the run where that stops
+  abbrev pub inquiry_after : Program → Question → ℕ → Inquiry
+  inquiry_after t q E = let l = shown m t q E in record { question = q; verdict = l.verdict; run = front l.left }
 
-  -- what a session holds is what a series amounts to
-  abbrev pub Holds : Book → Content → Type 0
-  Holds blank c = (c.table ≡ nothing) × (c.search ≡ None)
-  Holds (held t) c = (c.table ≡ t) × (c.search ≡ None)
-  Holds (asked t q E) c = Searched t q E c
+  -- what a session holds whose calls amount to this
+  abbrev pub content_of : Book → Content
+  content_of blank = record { table = nothing; inquiry = None }
+  content_of (held t) = record { table = t; inquiry = None }
+  content_of (asked t q E) = record { table = t; inquiry = Some (inquiry_after t q E) }
 
   -- the session began new and then had the calls h
   abbrev pub After : List Call → Content → Type 0
-  After h c = Holds (booked h) c
+  After h c = c ≡ content_of (booked h)
 
   -- The call c takes a session from one content to another and answers a; after every series of calls the answer is
   -- that of what the series amounts to.

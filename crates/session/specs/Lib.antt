@@ -3,8 +3,8 @@ pub mod Notices
 pub mod Recited
 pub mod Reports
 pub mod Contents
-pub mod Outcomes
 pub mod Series
+pub mod Outcomes
 pub mod Answers
 pub mod Law
 pub mod Spent

@@ -1,27 +1,30 @@
 -- What the calls tell after any series of them, in a reader's words: over the relation "is a run within bounds" and the
 -- list of these runs.
-use Rattle.std.specs.Prelude.{◌≡◌, ℕ, ◌+◌, ◌*◌, ◌≤◌, ◌↔◌, List, ◌++◌, length, None, Ok, Err, Option, Result}
+use Rattle.std.specs.Prelude.{◌≡◌, ℕ, ◌+◌, ◌*◌, ◌<◌, ◌≤◌, ◌⊎◌, ◌↔◌, List, ◌++◌, length, None, Ok, Err, Option, Result}
 use Rattle.text.specs.Lines.{line_text}
 use Rattle.text.specs.Writing.{over as written_over}
 use Rattle.memory.specs.Machine.{Machine}
 use Rattle.ceiling.specs.declared.moves.Move.{Move}
 use Rattle.ceiling.specs.Programs.{opening}
+use Rattle.program.specs.declared.refusals.Refusal.{Refusal as Unreadable}
 use Rattle.program.specs.Program.{Program, lines_text, nothing}
 use Rattle.program.specs.Source.{SaysOf}
 use Rattle.worlds.specs.Worlds.{over}
 use Rattle.runs.specs.declared.questions.Question.{Question}
+use Rattle.runs.specs.declared.questions.Unasked.{Unasked}
 use Rattle.runs.specs.declared.verdicts.Verdict.{Verdict}
 use Rattle.runs.specs.declared.verdicts.Verdict.TheVariants as verdict
 use Rattle.runs.specs.declared.verdicts.Worked.{Worked}
-use Rattle.runs.specs.Askable.{Askable, Wrong}
+use Rattle.runs.specs.Askable.{Judges}
 use Rattle.runs.specs.Asked.{system}
 use Rattle.runs.specs.Listed.{geometric}
 use Rattle.runs.specs.Runs.{switches_of}
 use Rattle.runs.specs.Searches.{HasList, Tells}
+use Rattle.replay.specs.declared.faults.Fault.{Fault}
 use Rattle.replay.specs.declared.faults.Played.{Played}
 use Rattle.replay.specs.Written.{run_fields, Answers, Says}
 use Rattle.session.specs.declared.refusals.Refusal.{Refusal}
-use Rattle.session.specs.declared.refusals.Refusal.TheVariants.{Table, Question as NoQuestion, WorkUnasked, Effort, ReplayUnasked, Run, ReportUnasked, Short, Input, QuestionLine, Buffer}
+use Rattle.session.specs.declared.refusals.Refusal.TheVariants.{WorkUnasked, Effort, ReplayUnasked, ReportUnasked, Short}
 use Rattle.session.specs.declared.standings.Stage.{Stage}
 use Rattle.session.specs.declared.standings.Stage.TheVariants as stage
 use Rattle.session.specs.declared.standings.Standing.{Standing}
@@ -30,22 +33,13 @@ use Rattle.session.specs.declared.steps.Step.{Step}
 use Rattle.session.specs.Recited.{records_of, nth}
 use Rattle.session.specs.Reports.{verdict_fields}
 use Rattle.session.specs.Series.{Call, Book, blank, held, asked, booked}
+use Rattle.session.specs.Answers.{as_table, as_question}
+use Rattle.session.specs.Outcomes.{as_run}
 use Rattle.session.specs.Spent.{spent}
 
 -- what is answered to a text, and the table then
 abbrev pub LoadSays : List ℕ → Result (Unit {0}) Refusal → Content → Type 0
-LoadSays text (Ok u) c = SaysOf text (Ok u) c.table
-LoadSays text (Err (Table why)) c = SaysOf text (Err why) c.table
-LoadSays text (Err (NoQuestion why)) c = ⊥
-LoadSays text (Err WorkUnasked) c = ⊥
-LoadSays text (Err Effort) c = ⊥
-LoadSays text (Err ReplayUnasked) c = ⊥
-LoadSays text (Err (Run fault)) c = ⊥
-LoadSays text (Err ReportUnasked) c = ⊥
-LoadSays text (Err (Short needed)) c = ⊥
-LoadSays text (Err Input) c = ⊥
-LoadSays text (Err QuestionLine) c = ⊥
-LoadSays text (Err Buffer) c = ⊥
+LoadSays text r c = (x : Result (Unit {0}) Unreadable) × (r ≡ as_table x) × SaysOf text x c.table
 
 -- the table that calls leave, of which nothing was read before the first load that was accepted
 abbrev pub table_of : Book → Program
@@ -53,24 +47,9 @@ table_of blank = nothing
 table_of (held t) = t
 table_of (asked t q E) = t
 
--- what is answered to n, k and targets for a table
-abbrev pub PutBy : Program → ℕ → ℕ → List ℕ → Result (Unit {0}) Refusal → Type 0
-PutBy t n k targets (Ok u) = Askable t n k targets
-PutBy t n k targets (Err (NoQuestion why)) = Wrong t n k targets why
-PutBy t n k targets (Err (Table why)) = ⊥
-PutBy t n k targets (Err WorkUnasked) = ⊥
-PutBy t n k targets (Err Effort) = ⊥
-PutBy t n k targets (Err ReplayUnasked) = ⊥
-PutBy t n k targets (Err (Run fault)) = ⊥
-PutBy t n k targets (Err ReportUnasked) = ⊥
-PutBy t n k targets (Err (Short needed)) = ⊥
-PutBy t n k targets (Err Input) = ⊥
-PutBy t n k targets (Err QuestionLine) = ⊥
-PutBy t n k targets (Err Buffer) = ⊥
-
 -- A question is put just if it can be asked of the table that the calls h leave; else what is told of it is wrong with it.
 abbrev pub PutSays : List Call → ℕ → ℕ → List ℕ → Result (Unit {0}) Refusal → Type 0
-PutSays h n k targets r = PutBy (table_of (booked h)) n k targets r
+PutSays h n k targets r = (x : Result (Unit {0}) Unasked) × (r ≡ as_question x) × Judges (table_of (booked h)) n k targets x
 
 -- there is a question, about the table t with the effort E, and this holds of it
 abbrev pub OfQuestion : Book → (Program → Question → ℕ → Type 0) → Type 0
@@ -88,6 +67,12 @@ abbrev pub OfNothing : Book → Type 0
 OfNothing blank = Unit {0}
 OfNothing (held t) = ⊥
 OfNothing (asked t q E) = ⊥
+
+-- the text stands at the front of the buffer, which was long enough; or it was shorter, and is as it was
+abbrev pub Fills : List ℕ → List ℕ → Result ℕ Refusal → List ℕ → Type 0
+Fills text out r new =
+    ((length text ≤ length out) × (r ≡ Ok (length text)) × (new ≡ written_over text out))
+    ⊎ ((length out < length text) × (r ≡ Err (Short (length text))) × (new ≡ out))
 
 module _ {Config : Type 0} (m : Machine Config) where
   -- The report of the verdict v: its line, with the steps and switches of the found run, and that run as it is written.
@@ -112,10 +97,22 @@ module _ {Config : Type 0} (m : Machine Config) where
       abbrev Shown : (Program → Question → ℕ → List Move → Type 0) → Type 0
       Shown P = OfQuestion (booked h) (λ t q E. (r : List Move) × P t q E r)
 
-      -- its own effort and units count already
+      -- A work is taken with an effort from 1 to a million; its own effort and units count already.
+      pub record Taken (t : Program) (q : Question) (E e : ℕ) (r : Result Worked Refusal) : Type 0 where
+        pub effort : (1 ≤ e) × (e ≤ 1000000)
+        pub worked : Worked
+        pub is : r ≡ Ok worked
+        pub run : List Move
+        pub known : Known t q (E + e) (spent m h + worked.units) worked.verdict run
+
+      -- without a question there is no work, and none with an effort of 0 or above a million
+      abbrev pub WorkBy : Book → ℕ → Result Worked Refusal → Type 0
+      WorkBy blank e r = r ≡ Err WorkUnasked
+      WorkBy (held t) e r = r ≡ Err WorkUnasked
+      WorkBy (asked t q E) e r = Taken t q E e r ⊎ (((e ≡ 0) ⊎ (1000000 < e)) × (r ≡ Err Effort))
+
       abbrev pub WorkSays : ℕ → Result Worked Refusal → Type 0
-      WorkSays e (Ok w) = Shown (λ t q E r. Known t q (E + e) (spent m h + w.units) w.verdict r)
-      WorkSays e (Err told) = Unit {0}
+      WorkSays e r = WorkBy (booked h) e r
 
       abbrev pub StageSays : Stage → ℕ → Type 0
       StageSays stage.New steps = OfNothing (booked h) × (steps ≡ 0)
@@ -138,24 +135,27 @@ module _ {Config : Type 0} (m : Machine Config) where
       abbrev pub StepSays : ℕ → Option Step → Type 0
       StepSays i o = StepBy (booked h) i o
 
-      -- what the buffer held, and what is answered and what it holds then
-      abbrev pub ReportSays : List ℕ → Result ℕ Refusal → List ℕ → Type 0
-      ReportSays out (Ok n) new = Shown (λ t q E r.
-          (v : Verdict) × Known t q E (spent m h) v r
-          × (n ≡ length (report_of t q v (if_found v r))) × (new ≡ written_over (report_of t q v (if_found v r)) out))
-      ReportSays out (Err told) new = new ≡ out
+      -- what is known of the question, and its report in the buffer
+      pub record Reported (t : Program) (q : Question) (E : ℕ) (out : List ℕ) (r : Result ℕ Refusal) (new : List ℕ) : Type 0 where
+        pub verdict : Verdict
+        pub run : List Move
+        pub known : Known t q E (spent m h) verdict run
+        pub written : Fills (report_of t q verdict (if_found verdict run)) out r new
 
-  -- a text is accepted exactly as the written form of a run within bounds that reaches the targets
+      -- what the buffer held, and what is answered and what it holds then; without a question there is no report
+      abbrev pub ReportBy : Book → List ℕ → Result ℕ Refusal → List ℕ → Type 0
+      ReportBy blank out r new = (r ≡ Err ReportUnasked) × (new ≡ out)
+      ReportBy (held t) out r new = (r ≡ Err ReportUnasked) × (new ≡ out)
+      ReportBy (asked t q E) out r new = Reported t q E out r new
+
+      abbrev pub ReportSays : List ℕ → Result ℕ Refusal → List ℕ → Type 0
+      ReportSays out r new = ReportBy (booked h) out r new
+
+  -- A text is accepted exactly as the written form of a run within bounds that reaches the targets; without a question none is.
+  abbrev pub ReplayBy : Book → List ℕ → Result Played Refusal → Type 0
+  ReplayBy blank text r = r ≡ Err ReplayUnasked
+  ReplayBy (held t) text r = r ≡ Err ReplayUnasked
+  ReplayBy (asked t q E) text r = (x : Result Played Fault) × (r ≡ as_run x) × Says m t q text x
+
   abbrev pub ReplaySays : List Call → List ℕ → Result Played Refusal → Type 0
-  ReplaySays h text (Ok p) = OfQuestion (booked h) (λ t q E. Says m t q text (Ok p))
-  ReplaySays h text (Err (Run fault)) = OfQuestion (booked h) (λ t q E. Says m t q text (Err fault))
-  ReplaySays h text (Err (Table why)) = ⊥
-  ReplaySays h text (Err (NoQuestion why)) = ⊥
-  ReplaySays h text (Err WorkUnasked) = ⊥
-  ReplaySays h text (Err Effort) = ⊥
-  ReplaySays h text (Err ReplayUnasked) = OfQuestion (booked h) (λ t q E. Unit {0}) → ⊥
-  ReplaySays h text (Err ReportUnasked) = ⊥
-  ReplaySays h text (Err (Short needed)) = ⊥
-  ReplaySays h text (Err Input) = ⊥
-  ReplaySays h text (Err QuestionLine) = ⊥
-  ReplaySays h text (Err Buffer) = ⊥
+  ReplaySays h text r = ReplayBy (booked h) text r

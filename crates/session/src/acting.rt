@@ -5,7 +5,7 @@ ghost use Rattle.std.specs.Prelude.{◌≡◌, ◌≤◌, cond, length, Ok, Err,
 ghost use Rattle.program.specs.Program.{within};
 ghost use Rattle.session.specs.declared.refusals.Refusal.TheVariants as refusal;
 ghost use Rattle.session.specs.Contents.{content, steps_in};
-ghost use Rattle.session.specs.Outcomes.{loaded_in, PutIn, replayed_in, reported_in, standing_in, stage_by, stepped_in, WorkedIn};
+ghost use Rattle.session.specs.Outcomes.{loaded_in, put_in, replayed_in, reported_in, standing_in, stage_by, stepped_in, worked_in};
 
 use super::reciting::{pick, recite};
 use super::refusals::Refusal;
@@ -58,7 +58,7 @@ impl<M: Memory> Session<M> {
         switches: u16,
         targets: [u16; 4],
     ) -> Result<(), Refusal>
-        ensures { PutIn M.machine (content self.old) steps switches targets result (content self.new) }
+        ensures { (result, content self.new) ≡ put_in (content self.old) steps switches targets }
     {
         let question = Question::new(&self.table, steps, switches, targets)?;
         self.search = Some(self.cursor.begin(&self.table, question));
@@ -66,7 +66,7 @@ impl<M: Memory> Session<M> {
     }
 
     pub(crate) fn do_work(&mut self, effort: u32) -> Result<Worked, Refusal>
-        ensures { WorkedIn M.machine (content self.old) effort result (content self.new) }
+        ensures { (result, content self.new) ≡ worked_in M.machine (content self.old) effort }
     {
         let mut search = self.search.ok_or(Refusal::WorkUnasked)?;
         allow(effort)?;

@@ -3,7 +3,7 @@
 
 ghost use Rattle.std.specs.Prelude.{◌≡◌, ◌≤◌, List, length, IfOk};
 ghost use Rattle.session.specs.Contents.{content};
-ghost use Rattle.session.specs.Outcomes.{loaded_in, PutIn, replayed_in, reported_in, standing_in, stepped_in, WorkedIn};
+ghost use Rattle.session.specs.Outcomes.{loaded_in, put_in, replayed_in, reported_in, standing_in, stepped_in, worked_in};
 ghost use Rattle.session.specs.Series as call;
 ghost use Rattle.session.specs.Answers.{loaded, opened, replayed, reported, stepped, stood, worked};
 ghost use Rattle.session.specs.Law.{After, Lawful};
@@ -30,7 +30,7 @@ impl<M: Memory> Session<M> {
     // Asks a question of the table: runs of at most so many steps and switches to these targets, one for each process
     // from 1 on.
     pub fn put(&mut self, steps: u16, switches: u16, targets: [u16; 4]) -> Result<(), Refusal>
-        ensures outcome { PutIn M.machine (content self.old) steps switches targets result (content self.new) }
+        ensures outcome { (result, content self.new) ≡ put_in (content self.old) steps switches targets }
         ensures law { Lawful M.machine (call.put steps switches targets) (λ b. opened b steps switches targets) (content self.old) result (content self.new) }
         ensures words { (h : List call.Call) → After M.machine h (content self.old) → PutSays h steps switches targets result }
     {
@@ -39,7 +39,7 @@ impl<M: Memory> Session<M> {
 
     // Looks at the next runs of the question's list, one for each unit of effort.
     pub fn work(&mut self, effort: u32) -> Result<Worked, Refusal>
-        ensures outcome { WorkedIn M.machine (content self.old) effort result (content self.new) }
+        ensures outcome { (result, content self.new) ≡ worked_in M.machine (content self.old) effort }
         ensures law { Lawful M.machine (call.work effort) (λ b. worked M.machine b effort) (content self.old) result (content self.new) }
         ensures words { (h : List call.Call) → After M.machine h (content self.old) → WorkSays M.machine M.WIDEST h effort result }
     {

@@ -1,4 +1,4 @@
-// Making a session, which is the only thing that may find no memory.
+// Making a session.
 
 ghost use Rattle.std.specs.Prelude.{◌≡◌, []};
 ghost use Rattle.ceiling.specs.Ceiling.{memory as weak};
@@ -14,8 +14,9 @@ use program::Table;
 use runs::Cursor;
 
 impl<M: Memory + Drop> Session<M> {
-    // A new session over a memory as it is, whether it does fences or not.
-    pub fn over(memory: M) -> Session<M>
+    // A new session over a memory as it is. It is not for callers: over a memory that does no fences a process would wait at each for
+    // ever, and an answer of none be untrue.
+    fn over(memory: M) -> Session<M>
         ensures { After M.machine [] (content result) }
     {
         Session {
@@ -54,7 +55,7 @@ pub fn sequential() -> Session<Fences<Sequential>>
 // size, after every series of calls.
 pub fn release_acquire() -> Session<Fences<ReleaseAcquire>>
     ensures new { After weak [] (content result) }
-    ensures free { Freed }
+    ensures free { Freed (content result) }
 {
     Session::new(ReleaseAcquire::new(least()))
 }

@@ -6,7 +6,7 @@ use Rattle.program.specs.Program.{Six, lines_text}
 use Rattle.program.specs.Tables.{program}
 use Rattle.worlds.specs.declared.records.Record.{Record}
 use Rattle.runs.specs.declared.searches.Search.{Search}
-use Rattle.session.specs.Contents.{content, steps_in}
+use Rattle.session.specs.Contents.{content, inquiry_in, steps_in}
 use Rattle.session.specs.Outcomes.{put_out, reported_by}
 use Rattle.session.specs.Recited.{InField}
 use Rattle.session.specs.Reports.{report_lines, report_text}
@@ -18,15 +18,15 @@ pub lines-lines-requires-clause-small : goal.lines-lines-requires-clause-small
 lines-lines-requires-clause-small g c =
     let records : c.deref.result.now ≡ steps_in g.M.Memory.machine (content c.args.self.now) = search rules in
     subst (AllByRecursion InField) (sym records)
-    (steps_small g.M.Memory.machine (program c.args.self.now.table) g.M.Memory.WIDEST g.met.M.Memory.bounded g.met.M.Memory.few c.args.self.now.search)
+    (steps_small g.M.Memory.machine (program c.args.self.now.table) g.M.Memory.WIDEST g.met.M.Memory.bounded g.met.M.Memory.few (inquiry_in c.args.self.now.search))
 
 pub write_lines-requires-clause-six : goal.write_lines-requires-clause-six
 write_lines-requires-clause-six g c = subst (AllByRecursion Six) (sym c.deref-2.ensures.0) c.lines-lines.ensures.six
 
 -- a report of a search that is there
 asked : (o : Option Search) (s : Search) (records : List Record) (out : List ℕ)
-    → o ≡ Some s → put_out (report_text s.verdict records) out ≡ reported_by o records out
-asked o s records out e = ap (λ (x : Option Search). reported_by x records out) (sym e)
+    → o ≡ Some s → put_out (report_text s.verdict records) out ≡ reported_by (inquiry_in o) records out
+asked o s records out e = ap (λ (x : Option Search). reported_by (inquiry_in x) records out) (sym e)
 
 pub returns-then-out-needed-clause-value : goal.returns-then-out-needed-clause-value
 returns-then-out-needed-clause-value g c =
