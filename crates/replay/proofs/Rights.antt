@@ -26,7 +26,7 @@ labelled : (b : Bool) (l n : ℕ) → is_label (cond b (Some l) None) n ≡ true
 labelled true l n e = sym (eqb-true l n e)
 labelled false l n e = let z : ◌≡◌ {A = ℕ} 0 1 = cc in let y : ⊥ = omega arith in elim y [ ]
 
-label_there : (b : Bool) (l : ℕ) → b ≡ true → is_label (cond b (Some l) None) l ≡ true
+pub label_there : (b : Bool) (l : ℕ) → b ≡ true → is_label (cond b (Some l) None) l ≡ true
 label_there b l h = ap (λ c. is_label (cond c (Some l) None) l) h ∙ eq-eqb l l refl
 
 module _ {Config : Type 0} (m : Machine Config) (t : Program) (q : Question) (w : World Config Place) (i s : ℕ) where

@@ -23,6 +23,7 @@ use Rattle.replay.specs.Playing.{move_of, lines_read, lines_played, played}
 use Rattle.replay.specs.Written.{run_fields, Answers, IsWritten, AcceptedAs, Says}
 use Rattle.replay.proofs.Plays.{Plays, plays, played_back}
 use Rattle.replay.proofs.Fits.{fits}
+use Rattle.replay.proofs.Faulted.{faulted}
 
 module _ {Config : Type 0} (m : Machine Config) (t : Program) where
   -- a run's lines: they name its moves, there is one for each, and each has six numbers
@@ -114,7 +115,10 @@ module _ {Config : Type 0} (m : Machine Config) (t : Program) where
 
       by_outcome : (text : List ℕ) (o : Result Played Fault) → played m t q text ≡ o → Says m t q text o
       by_outcome text (Ok p) e = accepted text p e
-      by_outcome text (Err f) e = λ r a h. not_both f (told r) (sym e ∙ text_back text r a h)
+      by_outcome text (Err f) e = record {
+        no_run = λ r a h. not_both f (told r) (sym e ∙ text_back text r a h);
+        fault = faulted m t q text f e;
+      }
 
       pub says : (text : List ℕ) → Says m t q text (played m t q text)
       says text = by_outcome text (played m t q text) refl

@@ -1,4 +1,6 @@
 pub mod Playing
+pub mod Fields
+pub mod Faults
 pub mod Written
 pub mod Notices
 pub mod Words
