@@ -14,3 +14,4 @@ pub mod Works
 pub mod Asked
 pub mod Judged
 pub mod Splits
+pub mod QuestionLines

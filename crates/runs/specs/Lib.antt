@@ -10,5 +10,6 @@ pub mod Paths
 pub mod Cursors
 pub mod Searches
 pub mod Lines
+pub mod QuestionLines
 pub mod Notices
 pub mod Words

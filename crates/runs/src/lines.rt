@@ -1,5 +1,6 @@
 ghost use Rattle.std.specs.Prelude.{◌≡◌, slice_index};
 ghost use Rattle.runs.specs.Lines.{filled, is_blank, kind_of, wish_for, wish_of};
+ghost use Rattle.runs.specs.QuestionLines.{Says};
 
 use memory::Kind;
 use text::read_line;
@@ -55,7 +56,8 @@ fn wish_from(numbers: [u16; 7]) -> Option<Wish>
 
 // Reads a question line: seven fields, of which the third may be blank.
 pub fn read_question(line: &[u8]) -> Option<Wish>
-    ensures { result ≡ wish_of line.now }
+    ensures value { result ≡ wish_of line.now }
+    ensures words { Says line.now result }
 {
     if line.len() != 29 {
         return None;
