@@ -155,6 +155,10 @@ pub says : (line : List ℕ) (r : Option Wish) → r ≡ wish_of line → Says l
 says line (Some w) e = (read_told line w (sym e), λ v h. let read = read_as v line h in cc)
 says line None e = λ w h. let read = read_as w line h in cc
 
+-- a wish's line has 29 bytes
+pub line_long : (w : Wish) (line : List ℕ) → LineOf w line → length line ≡ 29
+line_long w line h = (filled_is w line h).0
+
 -- a line of another length is that of no wish
 pub other_length : (line : List ℕ) → (length line ≡ 29 → ⊥) → Says line None
 other_length line ne = λ w h. ne (filled_is w line h).0

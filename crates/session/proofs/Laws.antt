@@ -33,7 +33,7 @@ module _ {Config : Type 0} (m : Machine Config) where
 
 module _ {Config : Type 0} (m : Machine Config) (old new : Content) where
   -- an outcome that is known of every content is the answer, and what is held then
-  at_once : {A : Type 0} (f : Content → A × Content) (b next : call.Book) (r a : A) → (r, new) ≡ f old → old ≡ content_of m b
+  pub at_once : {A : Type 0} (f : Content → A × Content) (b next : call.Book) (r a : A) → (r, new) ≡ f old → old ≡ content_of m b
       → f (content_of m b) ≡ (a, content_of m next) → (r ≡ a) × (new ≡ content_of m next)
   at_once f b next r a e s v =
       let all = e ∙ ap f s ∙ v in

@@ -1,3 +1,4 @@
 pub mod Settles
 pub mod Endings
 pub mod Sits
+pub mod Inputs

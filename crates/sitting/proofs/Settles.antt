@@ -1,12 +1,10 @@
--- Works after an answer is settled change nothing that a report tells.
+-- Works after an answer is settled change nothing.
 -- So the works that the code leaves out, of a thousand, may be added: by induction over how many are left.
-use Rattle.std.proofs.Common.{◌≡◌, ℕ, zero, suc, ◌+◌, ◌-◌, ◌<◌, Bool, true, false, not, List, Result, refl, sym, ap, ap₂, ◌∙◌, subst, arith}
+use Rattle.std.proofs.Common.{◌≡◌, ℕ, zero, suc, ◌+◌, ◌-◌, ◌<◌, Bool, true, false, not, List, Some, Result, refl, sym, ap, ap₂, ◌∙◌, subst, arith}
 use Rattle.std.proofs.lemmas.Bool.{cond_both}
 use Rattle.memory.specs.Machine.{Machine}
 use Rattle.ceiling.specs.declared.moves.Move.{Move}
-use Rattle.ceiling.specs.Programs.{opening}
 use Rattle.program.specs.Program.{Program, within}
-use Rattle.worlds.specs.Worlds.{over}
 use Rattle.runs.specs.declared.questions.Question.{Question}
 use Rattle.runs.specs.declared.verdicts.Verdict.{Verdict}
 use Rattle.runs.specs.declared.verdicts.Verdict.TheVariants.{More, Found, None}
@@ -18,18 +16,16 @@ use Rattle.runs.specs.Runs.{list}
 use Rattle.runs.specs.Searches.{hits, shown}
 use Rattle.runs.proofs.Looks.{look_add, then}
 use Rattle.session.specs.declared.refusals.Refusal.{Refusal}
-use Rattle.session.specs.Contents.{Content, if_found}
-use Rattle.session.specs.Outcomes.{put_out, WorkedIn}
-use Rattle.session.specs.Recited.{records_of}
-use Rattle.session.specs.Reports.{report_text}
+use Rattle.session.specs.Contents.{Content}
+use Rattle.session.specs.Outcomes.{worked_in}
 use Rattle.session.specs.Series.{Book, work, blank, held, asked, from, work_on}
-use Rattle.session.specs.Answers.{reported, worked}
-use Rattle.session.specs.Law.{Holds}
+use Rattle.session.specs.Answers.{worked}
+use Rattle.session.specs.Law.{content_of}
 use Rattle.session.proofs.Books.{from_more}
-use Rattle.session.proofs.Loads.{work_law}
-use Rattle.session.proofs.Shows.{report_law}
+use Rattle.session.proofs.Laws.{at_once}
+use Rattle.session.proofs.Loads.{work_value}
 use Rattle.sitting.specs.Outputs.{works}
-use Rattle.sitting.specs.Searches.{is_open, is_settled, ReportsAfter}
+use Rattle.sitting.specs.Searches.{is_open, is_settled}
 
 pub works_more : (b : Book) (n : ℕ) → from b (works (suc n)) ≡ work_on (from b (works n)) 1000000
 unfolding works
@@ -78,29 +74,29 @@ module _ {Config : Type 0} (m : Machine Config) where
       let l = shown m t q E in
       subst (Stays l) (sym (look_add (hits m t q) E e (list (system m t) (root m t q)))) (answers_stay (hits m t q) e l l.verdict refl c)
 
-  module _ (out : List ℕ) where
-    abbrev Same : Book → Book → Type 0
-    Same b c = Settled c × (reported m c out ≡ reported m b out)
+  -- no further work will tell more, and the session holds the same
+  abbrev Same : Book → Book → Type 0
+  Same b c = Settled c × (content_of m c ≡ content_of m b)
 
-    more_effort : (t : Program) (q : Question) (E e : ℕ) → Settled (asked t q E) → Same (asked t q E) (asked t q (E + e))
-    more_effort t q E e c =
-        let s = stays t q E e c in (
-          ap is_open s.verdict ∙ c,
-          ap₂ (λ (v : Verdict) (L : List (List Move)). put_out (report_text v (records_of m t (opening m (over t) q.shape) (if_found v (front L)))) out) s.verdict s.left,
-        )
+  more_effort : (t : Program) (q : Question) (E e : ℕ) → Settled (asked t q E) → Same (asked t q E) (asked t q (E + e))
+  more_effort t q E e c =
+      let s = stays t q E e c in (
+        ap is_open s.verdict ∙ c,
+        ap₂ (λ (v : Verdict) (L : List (List Move)). record { table = t; inquiry = Some (record { question = q; verdict = v; run = front L }) }) s.verdict s.left,
+      )
 
-    more_work : (b : Book) (e : ℕ) → Settled b → Same b (work_on b e)
-    more_work blank e c = (c, refl)
-    more_work (held t) e c = (c, refl)
-    more_work (asked t q E) e c =
-        cond_both (within 1 1000000 e) (asked t q (E + e)) (asked t q E) (Same (asked t q E)) (λ _. more_effort t q E e c) (λ _. (c, refl))
+  more_work : (b : Book) (e : ℕ) → Settled b → Same b (work_on b e)
+  more_work blank e c = (c, refl)
+  more_work (held t) e c = (c, refl)
+  more_work (asked t q E) e c =
+      cond_both (within 1 1000000 e) (asked t q (E + e)) (asked t q E) (Same (asked t q E)) (λ _. more_effort t q E e c) (λ _. (c, refl))
 
-    more_works : (b : Book) (k : ℕ) → Settled b → Same b (from b (works k))
-    more_works b zero c = subst (Same b) (works_none b) (c, refl)
-    more_works b (suc k) c =
-        let before = more_works b k c in
-        let after = more_work (from b (works k)) 1000000 before.0 in
-        subst (Same b) (sym (works_more b k)) (after.0, after.1 ∙ before.1)
+  more_works : (b : Book) (k : ℕ) → Settled b → Same b (from b (works k))
+  more_works b zero c = subst (Same b) (works_none b) (c, refl)
+  more_works b (suc k) c =
+      let before = more_works b k c in
+      let after = more_work (from b (works k)) 1000000 before.0 in
+      subst (Same b) (sym (works_more b k)) (after.0, after.1 ∙ before.1)
 
   -- an answer of a work that tells all
   closes : (b : Book) (r : Result Answer Refusal) → r ≡ worked m b 1000000 → is_settled r ≡ true → Settled (work_on b 1000000)
@@ -108,27 +104,31 @@ module _ {Config : Type 0} (m : Machine Config) where
   closes (held t) r e s = tt
   closes (asked t q E) r e s = closed (is_open (shown m t q (E + 1000000)).verdict) (ap is_settled (sym e) ∙ s)
 
-  module _ (b : Book) (i : ℕ) (c new : Content) (r : Result Answer Refusal) (holds : Holds m (from b (works i)) c) (work : WorkedIn m c 1000000 r new) where
-    pub one_more : Holds m (from b (works (i + 1))) new
+  module _ (b : Book) (i : ℕ) (c new : Content) (r : Result Answer Refusal) (holds : c ≡ content_of m (from b (works i)))
+      (work : (r, new) ≡ worked_in m c 1000000) where
+    -- what the next work answers, and what is held then
+    next : (r ≡ worked m (from b (works i)) 1000000) × (new ≡ content_of m (work_on (from b (works i)) 1000000))
+    next =
+        let here = from b (works i) in
+        at_once m c new (λ x. worked_in m x 1000000) here (work_on here 1000000) r (worked m here 1000000) work holds (work_value m 1000000 here)
+
+    pub one_more : new ≡ content_of m (from b (works (i + 1)))
     one_more =
         let e : suc i ≡ i + 1 = omega arith in
-        subst (λ (n : ℕ). Holds m (from b (works n)) new) e
-        (subst (λ (x : Book). Holds m x new) (sym (works_more b i)) (work_law m 1000000 c new r work (from b (works i)) holds).0)
+        next.1 ∙ ap (content_of m) (sym (works_more b i)) ∙ ap (λ (n : ℕ). content_of m (from b (works n))) e
 
-    pub early : i < 1000 → is_settled r ≡ true → ReportsAfter m b new
-    early low settled = λ out.
-        let law = work_law m 1000000 c new r work (from b (works i)) holds in
+    pub early : i < 1000 → is_settled r ≡ true → new ≡ content_of m (from b (works 1000))
+    early low settled =
         let now = work_on (from b (works i)) 1000000 in
         let k = 999 - i in
         let all : 1000 ≡ suc i + k = omega arith in
-        let later = (more_works out now k (closes (from b (works i)) r law.1 settled)).1 in
+        let later = (more_works now k (closes (from b (works i)) r next.0 settled)).1 in
         let last : from b (works 1000) ≡ from now (works k) =
         ap (λ (n : ℕ). from b (works n)) all ∙ works_add b (suc i) k ∙ ap (λ (x : Book). from x (works k)) (works_more b i) in
-        report_law m out new now law.0 ∙ sym later ∙ sym (ap (λ (x : Book). reported m x out) last)
+        next.1 ∙ sym later ∙ sym (ap (content_of m) last)
 
-  pub late : (b : Book) (i : ℕ) (c : Content) → Holds m (from b (works i)) c → i ≡ 1000 → ReportsAfter m b c
-  late b i c holds e = λ out.
-      report_law m out c (from b (works 1000)) (subst (λ (n : ℕ). Holds m (from b (works n)) c) e holds)
+  pub late : (b : Book) (i : ℕ) (c : Content) → c ≡ content_of m (from b (works i)) → i ≡ 1000 → c ≡ content_of m (from b (works 1000))
+  late b i c holds e = holds ∙ ap (λ (n : ℕ). content_of m (from b (works n))) e
 
-  pub none_yet : (b : Book) (c : Content) → Holds m b c → Holds m (from b (works 0)) c
-  none_yet b c h = subst (λ (x : Book). Holds m x c) (works_none b) h
+  pub none_yet : (b : Book) (c : Content) → c ≡ content_of m b → c ≡ content_of m (from b (works 0))
+  none_yet b c h = h ∙ ap (content_of m) (works_none b)

@@ -1,7 +1,7 @@
--- A sitting's report, in a reader's words.
+-- What a sitting writes, in a reader's words.
 -- The works of a sitting are one effort of a thousand million; what is known after that effort is said of the bytes.
-use Rattle.std.proofs.Common.{◌≡◌, ℕ, zero, suc, ◌+◌, ◌*◌, ◌≤◌, Bool, true, false, cond, List, [], ◌∷◌, length, Some, Ok, Err, Result, nat_le, refl, sym, ap, ◌∙◌, arith}
-use Rattle.std.proofs.lemmas.Bool.{cond-true, le-leb, leb-true}
+use Rattle.std.proofs.Common.{◌≡◌, ℕ, zero, suc, ◌+◌, ◌*◌, ◌≤◌, ◌⊎◌, inl, inr, Bool, true, false, cond, List, [], ◌∷◌, length, Some, Ok, Err, Result, nat_le, refl, sym, ap, ap₂, ◌∙◌, arith}
+use Rattle.std.proofs.lemmas.Bool.{cond-false, cond-true, le-leb, leb-false, leb-true}
 use Rattle.std.proofs.lemmas.List.{length-append}
 use Rattle.text.specs.Lines.{line_text}
 use Rattle.text.specs.Writing.{over as written_over}
@@ -12,8 +12,13 @@ use Rattle.ceiling.specs.declared.moves.Move.{Move}
 use Rattle.ceiling.specs.Ceiling.{memory as weak}
 use Rattle.ceiling.specs.Programs.{World, next, opening}
 use Rattle.program.specs.declared.refusals.Refusal.{Refusal as Unreadable}
-use Rattle.program.specs.Program.{Program, lines_text, proper}
+use Rattle.program.specs.Program.{Program, lines_text, nothing, proper}
+use Rattle.program.specs.Reading.{read}
+use Rattle.program.specs.Source.{Accepted, Refused, SaysOf}
+use Rattle.program.specs.Tables.{taken_in}
+use Rattle.program.proofs.Blocks.{proper_source}
 use Rattle.program.proofs.Texts.{read_is}
+use Rattle.program.proofs.Words.{accepts}
 use Rattle.worlds.specs.declared.places.Place.{Place}
 use Rattle.worlds.specs.Worlds.{over, record_of}
 use Rattle.runs.specs.declared.lines.Wish.{Wish}
@@ -21,11 +26,13 @@ use Rattle.runs.specs.declared.questions.Question.{Question}
 use Rattle.runs.specs.declared.verdicts.Verdict.{Verdict}
 use Rattle.runs.specs.declared.verdicts.Verdict.TheVariants.{More, Found, None}
 use Rattle.runs.specs.declared.questions.Unasked.{Unasked}
-use Rattle.runs.specs.Asked.{question_by, system}
+use Rattle.runs.specs.Askable.{Askable}
+use Rattle.runs.specs.Asked.{judged, question_by, system}
 use Rattle.runs.specs.First.{front}
 use Rattle.runs.specs.Runs.{switches_of}
 use Rattle.runs.specs.Searches.{shown}
 use Rattle.runs.proofs.Asked.{asked_by, asks_of}
+use Rattle.runs.proofs.Judged.{judges}
 use Rattle.replay.specs.Playing.{record_fields}
 use Rattle.replay.specs.Written.{run_fields}
 use Rattle.session.specs.declared.refusals.Refusal.{Refusal}
@@ -40,9 +47,17 @@ use Rattle.session.proofs.Books.{Asking}
 use Rattle.session.proofs.Frees.{found_free}
 use Rattle.session.proofs.Knows.{asked_some, known}
 use Rattle.session.proofs.Tellings.{ok_one, report_is}
-use Rattle.sitting.specs.Outputs.{answered, calls, in_a_line, load_call, put_calls, sat, unless_refused, works}
-use Rattle.sitting.specs.Sits.{Accepts, Reports, Sits, Weakly}
+use Rattle.sitting.specs.Outputs.{answered, calls, in_a_line, load_call, put_calls, sat, told, unless_refused, works}
+use Rattle.sitting.specs.Sits.{LineTold, NoQuestion, NoTable, OfTable, Reports, Sits, TooShort, Weakly, Written}
 use Rattle.sitting.proofs.Settles.{works_more, works_none}
+
+err_one : {A E : Type 0} {a b : E} → ◌≡◌ {A = Result A E} (Err a) (Err b) → a ≡ b
+err_one e = cc
+
+-- a line that is told, with its length
+ok_line : (out new : List ℕ) (n : ℕ) (why : Refusal)
+    → ◌≡◌ {A = Result ℕ Refusal × List ℕ} (Ok n, new) (Ok (told why out).0, (told why out).1) → LineTold out n new why
+ok_line out new n why e = ap₂ (λ (k : ℕ) (z : List ℕ). (k, z)) (ok_one (ap (λ (y : Result ℕ Refusal × List ℕ). y.0) e)) (ap (λ (y : Result ℕ Refusal × List ℕ). y.1) e)
 
 module _ {Config : Type 0} (m : Machine Config) (t : Program) where
   length_run : (w : World Config Place) (i : ℕ) (r : List Move) → length (lines_text (run_fields m t w i r)) ≡ 25 * length r
@@ -74,22 +89,27 @@ module _ {Config : Type 0} (m : Machine Config) (widest : ℕ) (bounded : (s : C
   few_steps t q E U None x k = omega arith
 
   -- the report of what any effort shows, which has room in a buffer of 625 bytes
-  abbrev pub told : Program → Question → ℕ → List ℕ
-  told t q E = let l = shown m t q E in report_of m t q l.verdict (if_found l.verdict (front l.left))
+  abbrev pub report : Program → Question → ℕ → List ℕ
+  report t q E = let l = shown m t q E in report_of m t q l.verdict (if_found l.verdict (front l.left))
 
   module _ (t : Program) (q : Question) (E : ℕ) (out : List ℕ) (room : 625 ≤ length out) where
-    short : length (told t q E) ≤ length out
+    short : length (report t q E) ≤ length out
     short =
         let l = shown m t q E in
         let r = if_found l.verdict (front l.left) in
         omega (arith, few_steps t q E l.units l.verdict (front l.left) (known m widest bounded t q E), length_report m t q l.verdict r)
 
-    pub fits : reported m (asked t q E) out ≡ (Ok (length (told t q E)), written_over (told t q E) out)
+    pub fits : reported m (asked t q E) out ≡ (Ok (length (report t q E)), written_over (report t q E) out)
     fits =
         let l = shown m t q E in
         ap (λ (z : List ℕ). put_out z out) (report_is m t q l.verdict (if_found l.verdict (front l.left)))
-        ∙ cond-true (nat_le (length (told t q E)) (length out)) (Ok (length (told t q E)), written_over (told t q E) out)
-        (Err (refusal.Short (length (told t q E))), out) (le-leb (length (told t q E)) (length out) short)
+        ∙ cond-true (nat_le (length (report t q E)) (length out)) (Ok (length (report t q E)), written_over (report t q E) out)
+        (Err (refusal.Short (length (report t q E))), out) (le-leb (length (report t q E)) (length out) short)
+
+  -- the text is read as a table's, of which the question is judged right
+  pub record Accepts (w : Wish) (text : List ℕ) (t : Program) : Type 0 where
+    pub table : read text ≡ Ok t
+    pub question : judged t w.steps w.switches w.targets ≡ Ok tt
 
   module _ (w : Wish) (text out : List ℕ) (t : Program) (a : Accepts w text t) (E : ℕ) (all : 0 + 1000000 * 1000 ≡ E) where
     good : proper t ≡ true
@@ -120,10 +140,10 @@ module _ {Config : Type 0} (m : Machine Config) (widest : ℕ) (bounded : (s : C
     pub told_all : (n : ℕ) (new : List ℕ) (b : Bool) → nat_le 625 (length out) ≡ b
         → ◌≡◌ {A = Result ℕ Refusal × List ℕ} (Ok n, new) (cond b (in_a_line m (answered m w text out)) (Err refusal.Buffer, out))
         → (q : Question) → question_by t w.steps w.switches w.targets ≡ Some q
-        → (n ≡ length (told t q E)) × (new ≡ written_over (told t q E) out)
+        → (n ≡ length (report t q E)) × (new ≡ written_over (report t q E) out)
     told_all n new true room e q is =
         let whole = fits t q E out (leb-true 625 (length out) room) in
-        let same : ◌≡◌ {A = Result ℕ Refusal × List ℕ} (Ok n, new) (Ok (length (told t q E)), written_over (told t q E) out) =
+        let same : ◌≡◌ {A = Result ℕ Refusal × List ℕ} (Ok n, new) (Ok (length (report t q E)), written_over (report t q E) out) =
         e ∙ ap (in_a_line m) (not_refused ∙ ap (λ (b : Book). reported m b out) (books q is) ∙ whole) in
         (ok_one (ap (λ (y : Result ℕ Refusal × List ℕ). y.0) same), ap (λ (y : Result ℕ Refusal × List ℕ). y.1) same)
     told_all n new false room e q is = let no = ap (λ (y : Result ℕ Refusal × List ℕ). y.0) e in cc
@@ -145,24 +165,79 @@ module _ {Config : Type 0} (m : Machine Config) (widest : ℕ) (bounded : (s : C
         written = both.1;
       }
 
+  -- where there is room, by what is read of the text and judged of the question
+  module _ (w : Wish) (text out : List ℕ) (n : ℕ) (new : List ℕ) (all : (Ok n, new) ≡ sat m w text out) (room : nat_le 625 (length out) ≡ true) where
+    lined : (Ok n, new) ≡ in_a_line m (answered m w text out)
+    lined = all ∙ cond-true (nat_le 625 (length out)) (in_a_line m (answered m w text out)) (Err refusal.Buffer, out) room
+
+    abbrev last : Result ℕ Refusal × List ℕ
+    last = reported m (booked (calls w text)) out
+
+    abbrev asks_of_load : Result (Unit {0}) Refusal → Result ℕ Refusal × List ℕ
+    asks_of_load r = unless_refused r (unless_refused (opened (booked (load_call text)) w.steps w.switches w.targets) last out) out
+
+    told_as : (why : Refusal) → answered m w text out ≡ (Err why, out) → LineTold out n new why
+    told_as why e = ok_line out new n why (lined ∙ ap (in_a_line m) e)
+
+    not_read : (why : Unreadable) → read text ≡ Err why → Refused text why → NoTable text out n new
+    not_read why e h = record { why = why; refused = h; line = told_as (refusal.Table why) (ap (λ (x : Result Program Unreadable). asks_of_load (as_table x)) e) }
+
+    abbrev Shows : Program → Type 0
+    Shows t = Reports m widest w t out n new
+
+    of_table : (t : Program) → read text ≡ Ok t → Accepted text t → OfTable w text out n new Shows
+    of_table t e h = record { table = t; accepted = h; asked = go (judged t w.steps w.switches w.targets) refl }
+      where
+        asked_of : answered m w text out ≡ unless_refused (as_question (judged t w.steps w.switches w.targets)) last out
+        asked_of =
+            ap (λ (x : Result Program Unreadable). asks_of_load (as_table x)) e
+            ∙ ap (λ (b : Book). unless_refused (opened b w.steps w.switches w.targets) last out) (ap (load_on blank) e)
+
+        go : (x : Result (Unit {0}) Unasked) → judged t w.steps w.switches w.targets ≡ x
+            → NoQuestion w t out n new ⊎ (Askable t w.steps w.switches w.targets × Shows t)
+        go (Ok tt) j = inr (judges t w.steps w.switches w.targets (Ok tt) j, reports w text out t (record { table = e; question = j }) n new all)
+        go (Err why) j = inl (record {
+          why = why;
+          wrong = judges t w.steps w.switches w.targets (Err why) j;
+          line = told_as (refusal.Question why) (asked_of ∙ ap (λ (x : Result (Unit {0}) Unasked). unless_refused (as_question x) last out) j);
+        })
+
+    pub written : Written w text out n new Shows
+    written = go (read text) refl (accepts text nothing _ _ refl)
+      where
+        go : (x : Result Program Unreadable) → read text ≡ x → SaysOf text (taken_in nothing x).0 (taken_in nothing x).1 → Written w text out n new Shows
+        go (Ok t) e h = inr (of_table t e h)
+        go (Err why) e h = inl (not_read why e h)
+
   pub sits : (w : Wish) (text out : List ℕ) (r : Result ℕ Refusal) (new : List ℕ) → (r, new) ≡ sat m w text out → Sits m widest w text out r new
-  sits w text out (Ok n) new e = λ t a. reports w text out t a n new e
-  sits w text out (Err why) new e = kept (nat_le 625 (length out)) (answered m w text out) e
+  sits w text out (Ok n) new e = go (nat_le 625 (length out)) refl
     where
-      kept : (b : Bool) (x : Result ℕ Refusal × List ℕ)
-          → ◌≡◌ {A = Result ℕ Refusal × List ℕ} (Err why, new) (cond b (in_a_line m x) (Err refusal.Buffer, out)) → new ≡ out
-      kept true (Ok k, z) e = let no = ap (λ (y : Result ℕ Refusal × List ℕ). y.0) e in cc
-      kept true (Err f, z) e = let no = ap (λ (y : Result ℕ Refusal × List ℕ). y.0) e in cc
-      kept false x e = ap (λ (y : Result ℕ Refusal × List ℕ). y.1) e
+      go : (b : Bool) → nat_le 625 (length out) ≡ b → Sits m widest w text out (Ok n) new
+      go true room = (leb-true 625 (length out) room, written w text out n new e room)
+      go false room =
+          let other = e ∙ cond-false (nat_le 625 (length out)) (in_a_line m (answered m w text out)) (Err refusal.Buffer, out) room in
+          let never = ap (λ (y : Result ℕ Refusal × List ℕ). y.0) other in cc
+  sits w text out (Err why) new e = kept (nat_le 625 (length out)) (answered m w text out) refl e
+    where
+      kept : (b : Bool) (x : Result ℕ Refusal × List ℕ) → nat_le 625 (length out) ≡ b
+          → ◌≡◌ {A = Result ℕ Refusal × List ℕ} (Err why, new) (cond b (in_a_line m x) (Err refusal.Buffer, out)) → TooShort why out new
+      kept true (Ok k, z) room e = let never = ap (λ (y : Result ℕ Refusal × List ℕ). y.0) e in cc
+      kept true (Err f, z) room e = let never = ap (λ (y : Result ℕ Refusal × List ℕ). y.0) e in cc
+      kept false x room e = record {
+        is = err_one (ap (λ (y : Result ℕ Refusal × List ℕ). y.0) e);
+        short = leb-false 625 (length out) room;
+        kept = ap (λ (y : Result ℕ Refusal × List ℕ). y.1) e;
+      }
 
 -- over release-acquire memory a settled verdict holds for timestamps of any size
-pub weakly : (w : Wish) (text : List ℕ) (t : Program) (out : List ℕ) (n : ℕ) (new : List ℕ) → Accepts w text t
+pub weakly : (w : Wish) (text : List ℕ) (t : Program) (out : List ℕ) (n : ℕ) (new : List ℕ) → Accepted text t
     → Reports weak 25 w t out n new → Weakly w t out n new
 weakly w text t out n new a r =
+    let made = a.text_of.0 in
     let asking : Asking t r.asked = record {
       steps = w.steps;
       switches = w.switches;
       targets = w.targets;
       is = asked_by t w.steps w.switches w.targets r.asked r.asks;
     } in
-    record { reports = r; free = found_free t r.asked (read_is text t a.table).0 asking r.verdict r.run r.known.tells.settled }
+    record { reports = r; free = found_free t r.asked (ap proper made.2 ∙ proper_source made.0 made.1) asking r.verdict r.run r.known.tells.settled }

@@ -1,5 +1,5 @@
 -- What a sitting writes, byte for byte, by the session's own definitions.
-use Rattle.std.specs.Prelude.{◌≡◌, ℕ, zero, suc, ◌≤◌, cond, List, [], ◌∷◌, ◌++◌, length, Ok, Err, Result, nat_le}
+use Rattle.std.specs.Prelude.{ℕ, zero, suc, cond, List, [], ◌∷◌, ◌++◌, length, Ok, Err, Result, nat_le}
 use Rattle.text.specs.Lines.{line_text}
 use Rattle.text.specs.Writing.{over}
 use Rattle.memory.specs.declared.kinds.Kind.{Kind}

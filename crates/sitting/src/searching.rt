@@ -1,8 +1,9 @@
 ghost use Rattle.std.specs.Prelude.{◌≡◌, true};
 ghost use Rattle.session.specs.Contents.{content};
-ghost use Rattle.session.specs.Series.{Book};
-ghost use Rattle.session.specs.Law.{Holds};
-ghost use Rattle.sitting.specs.Searches.{is_settled, ReportsAfter};
+ghost use Rattle.session.specs.Series.{Book, from};
+ghost use Rattle.session.specs.Law.{content_of};
+ghost use Rattle.sitting.specs.Outputs.{works};
+ghost use Rattle.sitting.specs.Searches.{is_settled};
 
 use memory::Memory;
 use runs::{Verdict, Worked};
@@ -23,9 +24,9 @@ fn is_settled(worked: Result<Worked, Refusal>) -> bool
     }
 }
 
-// Works until the answer is settled, or as often as a sitting does.
+// Works until the answer is settled, or as often as a sitting does; further works would change nothing.
 pub(crate) fn search<M: Memory>(session: &mut Session<M>)
-    ensures { (b : Book) → Holds M.machine b (content session.old) → ReportsAfter M.machine b (content session.new) }
+    ensures { (b : Book) → content session.old ≡ content_of M.machine b → content session.new ≡ content_of M.machine (from b (works 1000)) }
 {
     for _ in 0..MOST_WORKS {
         if is_settled(session.work(EFFORT)) {
