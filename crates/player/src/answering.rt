@@ -110,7 +110,7 @@ pub(crate) fn answer(heap: Global, input: &[u8]) -> Result<String, AllocError>
             "refused (72): the question line has a wrong field, end or memory\n"
         );
     };
-    let mut table = Table::empty(heap)?;
+    let mut table = Table::empty();
     match table.read(parts.table) {
         Ok(()) => ask(heap, &table, wish, parts.run),
         Err(refusal) => tell_table(heap, refusal),

@@ -5,13 +5,12 @@
 mod answering;
 mod endings;
 mod inputs;
+mod serving;
 mod steps;
 
-use answering::answer;
-use intake::read_all;
+use serving::serve;
 use std::io;
 
 fn main(rt: HostRuntime) -> io::Result<()> {
-    let input = read_all(rt.alloc(), &mut rt.stdin())?;
-    rt.print(answer(rt.alloc(), input.as_slice())?)
+    serve(rt.alloc(), &mut rt.stdin(), &mut rt.stdout())
 }

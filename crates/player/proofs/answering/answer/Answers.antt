@@ -25,8 +25,8 @@ returns-in-Ok c =
     (λ s h. asked c.args.input.now (string_bytes s) w wished t e (subst (λ (run : List ℕ). Asked w t run (string_bytes s) (judged t w.steps w.switches w.targets)) c.cut-parts.ensures.run h))
     c.ask.ensures
 
-pub returns : goal.returns
-returns c =
+pub returns-in-Err : goal.returns-in-Err
+returns-in-Err c =
     let w = c.in-Some.wish in
     let wished : Some w ≡ wish_of (question_part c.args.input.now) = c.in-Some.ensures ∙ ap wish_of c.cut-parts.ensures.question in
     let e : ◌≡◌ {A = Result Program _} (Err c.in-Err.refusal) (read (table_part c.args.input.now)) = sym (read_err _ _ _ _ c.in-Err.ensures.value) ∙ ap read c.cut-parts.ensures.table in
