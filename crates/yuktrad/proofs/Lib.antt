@@ -1,1 +1,2 @@
 pub mod Sat
+pub mod Most

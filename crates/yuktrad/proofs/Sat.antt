@@ -1,5 +1,5 @@
 -- A sitting in a buffer that is long enough is never refused.
-use Rattle.std.proofs.Common.{◌≡◌, ℕ, Bool, true, false, List, length, nat_le, Ok, Err, Result, refl, sym, ap, ◌∙◌, subst}
+use Rattle.std.proofs.Common.{◌≡◌, ℕ, Bool, true, false, List, length, nat_le, Ok, Err, Result, refl, ap, ◌∙◌}
 use Rattle.std.proofs.lemmas.Bool.{both_ways, cond-true}
 use Rattle.memory.specs.Machine.{Machine}
 use Rattle.memory.specs.declared.kinds.Kind.{Kind}
@@ -11,7 +11,7 @@ use Rattle.runs.specs.declared.lines.Wish.{Wish}
 use Rattle.session.specs.declared.refusals.Refusal.{Refusal}
 use Rattle.session.specs.declared.refusals.Refusal.TheVariants.{Buffer}
 use Rattle.sitting.specs.Inputs.{asked_in}
-use Rattle.sitting.specs.Outputs.{answered, in_a_line, told, sat, sat_over, sat_by, sat_in}
+use Rattle.sitting.specs.Outputs.{answered, in_a_line, sat, sat_over, sat_by, sat_in}
 
 accepted : Result ℕ Refusal × List ℕ → Bool
 accepted (Ok n, out) = true

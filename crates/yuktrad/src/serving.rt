@@ -1,7 +1,10 @@
-ghost use Rattle.std.specs.Prelude.{take, IfSome, OnOk};
-ghost use Rattle.yuktrad.specs.Printing.{Prints};
+// What the program does between a reader and a writer.
 
-use intake::read_all;
+ghost use Rattle.std.specs.Prelude.{◌≡◌};
+ghost use Rattle.intake.specs.Serving.{Serves};
+ghost use Rattle.yuktrad.specs.Printing.{printed};
+
+use intake::read_most;
 use sitting::sitting;
 use std::alloc::Global;
 use std::io;
@@ -15,9 +18,9 @@ const ROOM: usize = 625;
 
 // Does a sitting on what a reader gives, and writes what it writes.
 pub fn serve<R: Read, W: Write>(heap: Global, input: &mut R, output: &mut W) -> io::Result<()>
-    ensures { OnOk result (IfSome (R.remaining input.old) (λ given. Prints (take 4001 given) (W.contents output.old) (W.contents output.new))) }
+    ensures { Serves (λ given text. text ≡ printed given) (R.remaining input.old) (W.contents output.old) (W.contents output.new) result }
 {
-    let given = read_all(heap, &mut input.take(MOST))?;
+    let given = read_most(heap, input, MOST)?;
     let mut out = [0; ROOM];
     match sitting(given.as_slice(), &mut out) {
         Ok(written) => output.write_all(&out[..written]),
