@@ -1,5 +1,5 @@
 // Tests of the crates `session` and `sitting` from outside: each call before and after a table, a question and an answer,
-// the refusals that a sitting cannot write, and that a session can be made at all. They stand apart so that the libraries
+// and the refusals that a sitting cannot write. They stand apart so that the libraries
 // are not proved again for them.
 
 #![tactic(auto)]
@@ -10,8 +10,7 @@ mod tests {
     use notice::Notice;
     use runs::{Verdict, Worked};
     use session::{Refusal, Session, Stage, Standing, release_acquire};
-    use sitting::{Failure, sitting};
-    use std::alloc::Global;
+    use sitting::sitting;
     use std::process::Abort;
     use std::test::Fail;
 
@@ -53,7 +52,7 @@ mod tests {
 
     #[test]
     fn a_new_session_has_nothing_to_tell(rt: HostRuntime) -> Result<(), Fail> {
-        let mut session = release_acquire(rt.alloc())?;
+        let mut session = release_acquire();
         let mut out = [7; 30];
         assert_eq!(rt; u8::from(session.standing().stage), 0);
         assert_eq!(rt; number(session.put(8, 0, [5, 5, 0, 0])), 21);
@@ -66,11 +65,11 @@ mod tests {
     }
 
     // A session with store buffering, and its question.
-    fn asked(rt: &impl Abort, heap: Global) -> Result<Session<Fences<ReleaseAcquire>>, Fail> {
-        let mut session = release_acquire(heap)?;
+    fn asked(rt: &impl Abort) -> Session<Fences<ReleaseAcquire>> {
+        let mut session = release_acquire();
         assert_eq!(rt; number(session.load(STORE_BUFFERING)), 0);
         assert_eq!(rt; number(session.put(8, 0, [5, 5, 0, 0])), 0);
-        Ok(session)
+        session
     }
 
     // What works of these efforts answer, one after another.
@@ -86,7 +85,7 @@ mod tests {
 
     #[test]
     fn a_question_is_answered(rt: HostRuntime) -> Result<(), Fail> {
-        let mut session = asked(&rt, rt.alloc())?;
+        let mut session = asked(&rt);
         assert_eq!(rt; number(session.work(0)), 32);
         assert_eq!(rt; number(session.work(1_000_001)), 32);
         let told = [
@@ -106,7 +105,7 @@ mod tests {
 
     #[test]
     fn a_step_is_told(rt: HostRuntime) -> Result<(), Fail> {
-        let mut session = asked(&rt, rt.alloc())?;
+        let mut session = asked(&rt);
         assert!(rt; session.step(6).is_none());
         works(&rt, &mut session, &[(9, units(9, Verdict::Found))]);
         assert!(rt; session.step(0).is_none());
@@ -121,7 +120,7 @@ mod tests {
 
     #[test]
     fn a_report_is_written(rt: HostRuntime) -> Result<(), Fail> {
-        let mut session = asked(&rt, rt.alloc())?;
+        let mut session = asked(&rt);
         let mut open = [7; 26];
         assert_eq!(rt; session.report(&mut open).ok(), Some(25));
         assert!(rt; open == *b"   0   3   0   0   0   0\n\x07");
@@ -137,7 +136,7 @@ mod tests {
 
     #[test]
     fn runs_are_replayed(rt: HostRuntime) -> Result<(), Fail> {
-        let mut session = asked(&rt, rt.alloc())?;
+        let mut session = asked(&rt);
         assert_eq!(rt; number(session.replay(RUN)), 0);
         assert_eq!(rt; number(session.replay(&RUN[..175])), 56);
         assert_eq!(rt; number(session.replay(&RUN[25..])), 51);
@@ -148,7 +147,7 @@ mod tests {
     // A refused call leaves the answer, a put begins again, and a load ends the question.
     #[test]
     fn answers_come_and_go(rt: HostRuntime) -> Result<(), Fail> {
-        let mut session = asked(&rt, rt.alloc())?;
+        let mut session = asked(&rt);
         works(&rt, &mut session, &[(9, units(9, Verdict::Found))]);
         assert_eq!(rt; number(session.put(25, 0, [0; 4])), 22);
         assert_eq!(rt; number(session.put(0, 0, [0, 6, 0, 0])), 23);
@@ -166,8 +165,8 @@ mod tests {
     #[test]
     fn a_sitting_refuses_a_short_buffer(rt: HostRuntime) {
         let mut out = [7; 624];
-        let refused = sitting(rt.alloc(), STORE_BUFFERING, &mut out);
-        assert!(rt; matches!(refused, Err(Failure::Refused(Refusal::Buffer))));
+        let refused = sitting(STORE_BUFFERING, &mut out);
+        assert!(rt; matches!(refused, Err(Refusal::Buffer)));
         assert!(rt; out == [7; 624]);
     }
 }
