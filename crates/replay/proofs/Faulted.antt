@@ -148,8 +148,8 @@ module _ {Config : Type 0} (m : Machine Config) (t : Program) (q : Question) whe
       -- a choice that is not offered
       by_offer : (o : Option Action) → deed m (over t) w k.process ≡ o → offered ≤ k.choice → told (unoffered i o offered)
       by_offer (Some a) is beyond =
-          record { run = r; line = line_of f; unoffered = record { placed = placed; beyond = beyond }; does = (a, is); wrong = refl }
-      by_offer None is beyond = record { run = r; line = line_of f; unoffered = record { placed = placed; beyond = beyond }; wrong = is }
+          record { run = r; line = line_of f; unoffered = record { placed = placed; beyond = beyond }; does = (a, is); told = refl }
+      by_offer None is beyond = record { run = r; line = line_of f; unoffered = record { placed = placed; beyond = beyond }; nothing = is }
 
       by_choice : (fault : Fault) → may_choose ≡ Some fault → told fault
       by_choice fault e =

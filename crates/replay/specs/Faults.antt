@@ -120,7 +120,7 @@ module _ {Config : Type 0} (m : Machine Config) (t : Program) (q : Question) whe
     pub run : List Move
     pub line : Line
     pub unoffered : Unoffered text i run line
-    pub wrong : deed m (over t) (led_by run) line.process ≡ None
+    pub nothing : deed m (over t) (led_by run) line.process ≡ None
 
   -- its move is not offered: for what the process does there are so many choices
   pub record WrongChoice (text : List ℕ) (i offered : ℕ) : Type 0 where
@@ -128,7 +128,7 @@ module _ {Config : Type 0} (m : Machine Config) (t : Program) (q : Question) whe
     pub line : Line
     pub unoffered : Unoffered text i run line
     pub does : (a : Action) × (deed m (over t) (led_by run) line.process ≡ Some a)
-    pub wrong : offered ≡ offers m (over t) (led_by run) line.process
+    pub told : offered ≡ offers m (over t) (led_by run) line.process
 
   -- its move can be made, and the line has another value or another mark than the step
   pub record WrongSeen (text : List ℕ) (i : ℕ) : Type 0 where
