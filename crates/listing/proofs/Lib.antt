@@ -1,1 +1,2 @@
 mod RowWords
+mod Longest

@@ -11,15 +11,14 @@ mod numbers;
 mod outcomes;
 mod performing;
 mod reading;
+mod serving;
 mod settings;
 mod telling;
 mod wrongs;
 
-use answering::answer;
-use intake::read_all;
+use serving::serve;
 use std::io;
 
 fn main(rt: HostRuntime) -> io::Result<()> {
-    let text = read_all(rt.alloc(), &mut rt.stdin())?;
-    rt.print(answer(rt.alloc(), text.as_slice())?)
+    serve(rt.alloc(), &mut rt.stdin(), &mut rt.stdout())
 }
