@@ -8,6 +8,7 @@ use Rattle.program.specs.declared.refusals.Refusal.TheVariants.{Length, Field}
 use Rattle.program.specs.Program.{Program, within}
 use Rattle.program.specs.Reading.{read, then_do, numbers_or, lines, table_read}
 
+-- such a length is not that of 2 to 129 lines
 no_count : (n : ℕ) → 3225 < n → (n % 25 == 0 && within 2 129 (n / 25)) ≡ false
 no_count n h = grind (arith, nat_tests)
 
@@ -15,6 +16,7 @@ no_count n h = grind (arith, nat_tests)
 read_by : List ℕ → Bool → Result Program Refusal
 read_by text b = then_do (then_do (cond b (Ok (length text / 25)) (Err Length)) (λ n. numbers_or Field 1 (lines n text))) table_read
 
+-- so its text is refused
 too_long : (text : List ℕ) → 3225 < length text → read text ≡ Err Length
 unfolding read_by
 too_long text h = ap (read_by text) (no_count (length text) h)
