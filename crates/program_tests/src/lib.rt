@@ -149,7 +149,7 @@ mod tests {
     #[test]
     fn refused_by_numbers(rt: HostRuntime) -> Result<(), Fail> {
         let heap = rt.alloc();
-        let mut table = Table::empty(heap)?;
+        let mut table = Table::empty();
         for case in CASES {
             let text = text_of(&rt, heap, case.lines)?;
             assert_eq!(rt; told(&mut table, text.as_slice()), case.told);
@@ -160,8 +160,8 @@ mod tests {
     }
 
     #[test]
-    fn refused_by_length_and_fields(rt: HostRuntime) -> Result<(), Fail> {
-        let mut table = Table::empty(rt.alloc())?;
+    fn refused_by_length_and_fields(rt: HostRuntime) {
+        let mut table = Table::empty();
         assert_eq!(rt; told(&mut table, b""), Err((11, 0)));
         assert_eq!(rt;
             told(&mut table, b"   1   1   1   2   1   0\n"),
@@ -183,7 +183,6 @@ mod tests {
             Err((12, 2))
         );
         assert!(rt; table.is_empty());
-        Ok(())
     }
 
     // Four processes of 32 rows each, and one row more in each if asked for.
@@ -201,7 +200,7 @@ mod tests {
     #[test]
     fn shortest_and_longest(rt: HostRuntime) -> Result<(), Fail> {
         let heap = rt.alloc();
-        let mut table = Table::empty(heap)?;
+        let mut table = Table::empty();
         assert_eq!(rt;
             told(&mut table, longest(&rt, heap, 33)?.as_slice()),
             Err((11, 0))
@@ -276,7 +275,7 @@ mod tests {
     #[test]
     fn every_instruction(rt: HostRuntime) -> Result<(), Fail> {
         let text = text_of(&rt, rt.alloc(), &NINE)?;
-        let mut table = Table::empty(rt.alloc())?;
+        let mut table = Table::empty();
         assert_eq!(rt; told(&mut table, text.as_slice()), Ok(()));
         for (label, instruction) in (1u8..).zip(ALL) {
             assert_eq!(rt; table.instruction(1, label), Some(instruction));

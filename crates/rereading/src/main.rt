@@ -61,7 +61,7 @@ fn tell(rt: &HostRuntime, table: &Table, outcomes: Outcomes) -> io::Result<()> {
 fn main(rt: HostRuntime) -> io::Result<()> {
     let turns = number_or(env::args(&rt)?.nth(1), TURNS);
     let text = read_all(rt.alloc(), &mut rt.stdin())?;
-    let mut table = Table::empty(rt.alloc())?;
+    let mut table = Table::empty();
     let outcomes = reread(&mut table, text.as_slice(), turns);
     tell(&rt, &table, outcomes)
 }

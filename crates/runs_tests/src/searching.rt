@@ -140,7 +140,7 @@ fn questions_have_limits(rt: HostRuntime) -> Result<(), Fail> {
         let notice = Notice::from(why);
         assert_eq!(rt; (notice.number, notice.place), (number, place));
     }
-    let empty = Table::empty(rt.alloc())?;
+    let empty = Table::empty();
     assert!(rt; Question::new(&empty, 25, 0, [0; 4]).is_err_and(|why| why == Unasked::NoTable));
     Ok(())
 }

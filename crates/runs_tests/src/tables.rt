@@ -42,7 +42,7 @@ pub(crate) fn text_of(heap: Global, lines: &[[u16; 6]]) -> Result<Vec<u8>, Fail>
 }
 
 pub(crate) fn table_of(rt: &impl Abort, heap: Global, lines: &[[u16; 6]]) -> Result<Table, Fail> {
-    let mut table = Table::empty(heap)?;
+    let mut table = Table::empty();
     assert!(rt; table.read(text_of(heap, lines)?.as_slice()).is_ok());
     Ok(table)
 }

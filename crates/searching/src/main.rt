@@ -90,7 +90,7 @@ fn main(rt: HostRuntime) -> io::Result<()> {
     ];
     let times = number_or(args.next(), 1);
     let text = read_all(rt.alloc(), &mut rt.stdin())?;
-    let mut table = Table::empty(rt.alloc())?;
+    let mut table = Table::empty();
     if let Err(refusal) = table.read(text.as_slice()) {
         return println!(rt; "refused: {refusal}");
     }
