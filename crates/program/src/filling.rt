@@ -24,7 +24,7 @@ fn running_sums(labels: [u8; 5]) -> [u8; 6]
 }
 
 impl Table {
-    // A table of which nothing was read, with room for the most rows that a table can have.
+    // A table of which nothing was read.
     pub fn empty() -> Table
         ensures { program result ≡ nothing }
     {
@@ -35,7 +35,7 @@ impl Table {
         }
     }
 
-    // Holds what was read; there is room for it, so this cannot fail.
+    // Holds what was read, in place of what was there.
     fn hold(&mut self, parsed: Parsed)
         ensures { program self.new ≡ record { counts = parsed.frame.counts; rows = parsed.rows.items } }
     {

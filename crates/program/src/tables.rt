@@ -4,8 +4,8 @@ ghost use Rattle.program.specs.Program.{kept, starts_of};
 use super::rows::{Counts, MOST_ROWS, Row};
 use arrayvec::ArrayVec;
 
-// A program, or none yet, in rows that were reserved when the table was made. None yet is a table without rows
-// and with counts of 0: an Option around a program would be unwrapped at every look-up.
+// A program, or none yet. Its rows stand in place, since there are few. None yet is a table without rows and with counts
+// of 0: an Option around a program would be unwrapped at every look-up.
 #[derive(Drop)]
 pub struct Table {
     pub(crate) counts: Counts,
