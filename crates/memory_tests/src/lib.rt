@@ -6,6 +6,7 @@
 #[cfg(test)]
 mod tests {
     use memory::{Action, Fences, Memory, ReleaseAcquire, Sequential, Shape, Take, drive};
+    use notice::{Notice, Part};
     use std::process::Abort;
     use std::test::Fail;
 
@@ -63,7 +64,14 @@ mod tests {
         assert!(rt; memory.offers(process, action) == offered);
         match memory.take(process, action, offered) {
             Ok(_) => return Err(Fail::new("the choice is not refused")),
-            Err(refusal) => assert!(rt; refusal.offered == offered),
+            Err(refusal) => {
+                assert!(rt; refusal.offered == offered);
+                let notice = Notice::from(refusal);
+                assert_eq!(rt;
+                    (notice.number, notice.place, notice.part),
+                    (53, 0, Part::Memory)
+                );
+            }
         }
         assert!(rt; memory.offers(process, action) == offered);
         Ok(())

@@ -24,7 +24,8 @@ use Rattle.runs.proofs.Works.{narrow, tells_by}
 use Rattle.replay.specs.Written.{Answers}
 use Rattle.session.specs.declared.refusals.Refusal.TheVariants as refusal
 use Rattle.session.specs.Series.{Call, Book, load, put, work, standing, step, replay, report, blank, held, asked, load_on, put_by, next, from, booked}
-use Rattle.session.specs.Answers.{as_table, as_question, added}
+use Rattle.session.specs.Answers.{added}
+use Rattle.session.specs.Outcomes.{as_question, as_table}
 use Rattle.session.specs.Spent.{afresh, reported_units, spends, spent_from, spent}
 use Rattle.session.specs.Words.{Known}
 use Rattle.session.proofs.Books.{Sound, sound_next}

@@ -25,11 +25,10 @@ use Rattle.runs.proofs.Splits.{Standing, run_tested, stands_at}
 use Rattle.runs.proofs.Tree.{list_is}
 use Rattle.session.specs.declared.refusals.Refusal.{Refusal}
 use Rattle.session.specs.declared.refusals.Refusal.TheVariants as refusal
-use Rattle.session.specs.Contents.{Content, Inquiry}
-use Rattle.session.specs.Outcomes.{looked, loaded_in, put_by, put_in, taken, unlooked, worked_in, worked_with, works_by}
-use Rattle.session.specs.Series.{Book, blank, held, asked, load_on, put_on, work_on}
-use Rattle.session.specs.Series as series
-use Rattle.session.specs.Answers.{as_table, as_question, loaded, opened, worked, added}
+use Rattle.session.specs.Contents.{Content, Inquiry, inquiry_at}
+use Rattle.session.specs.Outcomes.{as_question, as_table, looked, loaded_in, put_in, put_with, taken, unlooked, worked_in, worked_with, works_by}
+use Rattle.session.specs.Series.{Book, blank, held, asked, load_on, put_by, put_on, work_on}
+use Rattle.session.specs.Answers.{loaded, opened, worked, added}
 use Rattle.session.specs.Law.{content_of, inquiry_after}
 use Rattle.session.specs.Words.{LoadSays}
 
@@ -52,17 +51,17 @@ module _ {Config : Type 0} (m : Machine Config) where
   -- a question that is put is open, at the first run
   begun : (t : Program) (q : Question) → inquiry_after m t q 0 ≡ record { question = q; verdict = More; run = [] }
   begun t q =
-      ap (λ (L : List (List Move)). let l = look (hits m t q) 0 L in record { question = q; verdict = l.verdict; run = front l.left })
+      ap (λ (L : List (List Move)). inquiry_at q (look (hits m t q) 0 L))
       (list_is (system m t) (root m t q))
 
   -- where there is a table
   put_table : (b : Book) (t : Program) (n k : ℕ) (targets : List ℕ) → (content_of m b).table ≡ t
-      → put_by (content_of m b) (judged t n k targets) (question_by t n k targets)
-      ≡ (as_question (judged t n k targets), content_of m (series.put_by b t (judged t n k targets) (question_by t n k targets)))
+      → put_with (content_of m b) (judged t n k targets) (question_by t n k targets)
+      ≡ (as_question (judged t n k targets), content_of m (put_by b t (judged t n k targets) (question_by t n k targets)))
   put_table b t n k targets same = go (judged t n k targets) (question_by t n k targets)
     where
       go : (r : Result (Unit {0}) Unasked) (o : Option Question)
-          → put_by (content_of m b) r o ≡ (as_question r, content_of m (series.put_by b t r o))
+          → put_with (content_of m b) r o ≡ (as_question r, content_of m (put_by b t r o))
       go (Ok u) (Some q) = ap₂ (λ (x : Program) (i : Inquiry). (Ok tt, record { table = x; inquiry = Some i })) same (sym (begun t q))
       go (Ok u) Nothing = refl
       go (Err why) o = refl
@@ -88,13 +87,13 @@ module _ {Config : Type 0} (m : Machine Config) where
 
     -- what a work shows in all, by what it shows itself
     abbrev in_all : Look → Worked × Inquiry
-    in_all l = (added before l, record { question = q; verdict = l.verdict; run = front l.left })
+    in_all l = (added before l, inquiry_at q l)
 
     -- so much more, taken off again
     only : (l : Look) → looked q l ≡ in_all (ahead before.units l)
     only l =
         let same : l.units ≡ l.units + before.units - before.units = omega arith in
-        ap (λ (u : ℕ). (record { units = u; verdict = l.verdict }, record { question = q; verdict = l.verdict; run = front l.left })) same
+        ap (λ (u : ℕ). (record { units = u; verdict = l.verdict }, inquiry_at q l)) same
 
     -- what is shown in all, where this answer stands before
     shown_by : (v : Verdict) → before.verdict ≡ v → in_all (ahead before.units (answers v (hits m t q) e before.left)) ≡ in_all after

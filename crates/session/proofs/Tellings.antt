@@ -34,11 +34,11 @@ use Rattle.session.specs.declared.refusals.Refusal.TheVariants as refusal
 use Rattle.session.specs.declared.standings.Standing.{Standing}
 use Rattle.session.specs.declared.steps.Step.{Step}
 use Rattle.session.specs.Contents.{if_found}
-use Rattle.session.specs.Outcomes.{stage_by}
+use Rattle.session.specs.Outcomes.{as_question, stage_by}
 use Rattle.session.specs.Recited.{records_of}
 use Rattle.session.specs.Reports.{numbered, report_text, switches_in, verdict_fields}
 use Rattle.session.specs.Series.{Call, Book, blank, held, asked, booked}
-use Rattle.session.specs.Answers.{added, as_question, opened, replayed, reported, stepped, stood, text_after, worked}
+use Rattle.session.specs.Answers.{added, opened, replayed, reported, stepped, stood, text_after, worked}
 use Rattle.session.specs.Spent.{spent}
 use Rattle.session.specs.Words.{Fills, OfNothing, OfQuestion, OfTable, Known, PutSays, ReplayBy, ReplaySays, ReportBy, ReportSays, StageSays, StandingSays, StepBy, StepSays, WorkBy, WorkSays, report_of, table_of}
 use Rattle.session.proofs.Books.{Sound, proper_kept, sound}

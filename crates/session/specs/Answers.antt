@@ -3,13 +3,11 @@ use Rattle.std.specs.Prelude.{ℕ, ◌+◌, ◌-◌, cond, List, None, Ok, Err, 
 use Rattle.memory.specs.Machine.{Machine}
 use Rattle.ceiling.specs.declared.moves.Move.{Move}
 use Rattle.ceiling.specs.Programs.{opening}
-use Rattle.program.specs.declared.refusals.Refusal.{Refusal as Unreadable}
 use Rattle.program.specs.Program.{Program, within}
 use Rattle.program.specs.Reading.{read}
 use Rattle.worlds.specs.declared.records.Record.{Record}
 use Rattle.worlds.specs.Worlds.{over}
 use Rattle.runs.specs.declared.questions.Question.{Question}
-use Rattle.runs.specs.declared.questions.Unasked.{Unasked}
 use Rattle.runs.specs.declared.questions.Unasked.TheVariants.{NoTable}
 use Rattle.runs.specs.declared.verdicts.Worked.{Worked}
 use Rattle.runs.specs.Asked.{judged}
@@ -23,22 +21,14 @@ use Rattle.session.specs.declared.refusals.Refusal.TheVariants as refusal
 use Rattle.session.specs.declared.standings.Stage.TheVariants as stage
 use Rattle.session.specs.declared.standings.Standing.{Standing}
 use Rattle.session.specs.Contents.{if_found}
-use Rattle.session.specs.Outcomes.{as_run, put_out, stand_by}
+use Rattle.session.specs.Outcomes.{as_question, as_run, as_table, put_out, stand_by}
 use Rattle.session.specs.declared.steps.Step.{Step}
 use Rattle.session.specs.Recited.{records_of, nth}
 use Rattle.session.specs.Reports.{report_text}
 use Rattle.session.specs.Series.{Book, blank, held, asked}
 
-abbrev pub as_table : {A : Type 0} → Result A Unreadable → Result (Unit {0}) Refusal
-as_table (Ok t) = Ok tt
-as_table (Err why) = Err (refusal.Table why)
-
 abbrev pub loaded : Book → List ℕ → Result (Unit {0}) Refusal
 loaded b text = as_table (read text)
-
-abbrev pub as_question : Result (Unit {0}) Unasked → Result (Unit {0}) Refusal
-as_question (Ok u) = Ok tt
-as_question (Err why) = Err (refusal.Question why)
 
 abbrev pub opened : Book → ℕ → ℕ → List ℕ → Result (Unit {0}) Refusal
 opened blank n k targets = Err (refusal.Question NoTable)

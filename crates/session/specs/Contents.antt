@@ -11,6 +11,8 @@ use Rattle.runs.specs.declared.questions.Question.{Question}
 use Rattle.runs.specs.declared.searches.Search.{Search}
 use Rattle.runs.specs.declared.verdicts.Verdict.{Verdict}
 use Rattle.runs.specs.declared.verdicts.Verdict.TheVariants as verdict
+use Rattle.runs.specs.First.{front}
+use Rattle.runs.specs.Look.{Look}
 use Rattle.runs.specs.Paths.{path}
 use Rattle.session.specs.declared.sessions.Session.{Session}
 use Rattle.session.specs.Recited.{recited}
@@ -26,6 +28,10 @@ pub record Inquiry : Type 0 where
 pub record Content : Type 0 where
   pub table : Program
   pub inquiry : Option Inquiry
+
+-- what a look shows of a question, and where it stops; after the last run that is the run of no moves
+abbrev pub inquiry_at : Question → Look → Inquiry
+inquiry_at q l = record { question = q; verdict = l.verdict; run = front l.left }
 
 abbrev pub inquiry_of : Search → Inquiry
 inquiry_of s = record { question = s.question; verdict = s.verdict; run = path s.run }

@@ -20,7 +20,7 @@ pub record Low (n : ℕ) (store : Store) : Type 0 where
   pub sent : (x time : ℕ) (o : Message) → store.pool x time ≡ Some o → (y : ℕ) → o.view y ≤ n
   pub seen : (p x : ℕ) → store.views p x ≤ n
 
--- a session that holds c has this question q
+-- of a session that holds c, with the question q
 pub record Timeless (c : Content) (q : Question) : Type 0 where
   -- once standing is not open, it is found just if some run within both bounds, by the rules alone and with timestamps of
   -- any size, reaches the targets
@@ -30,11 +30,11 @@ pub record Timeless (c : Content) (q : Question) : Type 0 where
   pub low : (r : List Move) → Within (system memory c.table) (opening memory (over c.table) q.shape) q.steps q.switches r
       → Low q.steps (end_of (system memory c.table) (opening memory (over c.table) q.shape) r).config.store
 
--- this holds of its question, if it has one
+-- so it is with its question, if it has one
 abbrev pub IfAsked : Content → Option Inquiry → Type 0
 IfAsked c None = Unit {0}
 IfAsked c (Some i) = Timeless c i.question
 
--- whatever calls a session has that now holds c: what they lead to
+-- and with whatever any series of calls leads a session to that now holds c
 abbrev pub Freed : Content → Type 0
 Freed c = (h : List Call) → IfAsked (content_after memory c h) (content_after memory c h).inquiry

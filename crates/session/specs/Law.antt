@@ -3,15 +3,14 @@ use Rattle.std.specs.Prelude.{◌≡◌, ℕ, List, [], ◌∷◌, ◌++◌, Som
 use Rattle.memory.specs.Machine.{Machine}
 use Rattle.program.specs.Program.{Program, nothing}
 use Rattle.runs.specs.declared.questions.Question.{Question}
-use Rattle.runs.specs.First.{front}
 use Rattle.runs.specs.Searches.{shown}
-use Rattle.session.specs.Contents.{Content, Inquiry}
+use Rattle.session.specs.Contents.{Content, Inquiry, inquiry_at}
 use Rattle.session.specs.Series.{Call, Book, blank, held, asked, booked}
 
 module _ {Config : Type 0} (m : Machine Config) where
   -- what the first E runs of the list show of a question, and the run where that stops
   abbrev pub inquiry_after : Program → Question → ℕ → Inquiry
-  inquiry_after t q E = let l = shown m t q E in record { question = q; verdict = l.verdict; run = front l.left }
+  inquiry_after t q E = inquiry_at q (shown m t q E)
 
   -- what a session holds whose calls amount to this
   abbrev pub content_of : Book → Content

@@ -13,7 +13,6 @@ use Rattle.runs.specs.declared.verdicts.Verdict.{Verdict}
 use Rattle.runs.specs.declared.verdicts.Verdict.TheVariants as verdict
 use Rattle.runs.specs.declared.verdicts.Worked.{Worked}
 use Rattle.runs.specs.Asked.{judged, question_by, root, system}
-use Rattle.runs.specs.First.{front}
 use Rattle.runs.specs.Look.{Look, look}
 use Rattle.runs.specs.Runs.{is_run, rest}
 use Rattle.runs.specs.Searches.{hits}
@@ -25,7 +24,7 @@ use Rattle.session.specs.declared.refusals.Refusal.TheVariants as refusal
 use Rattle.session.specs.declared.standings.Stage.{Stage}
 use Rattle.session.specs.declared.standings.Stage.TheVariants as stage
 use Rattle.session.specs.declared.standings.Standing.{Standing}
-use Rattle.session.specs.Contents.{Content, Inquiry, if_found, steps_in}
+use Rattle.session.specs.Contents.{Content, Inquiry, if_found, inquiry_at, steps_in}
 use Rattle.session.specs.declared.steps.Step.{Step}
 use Rattle.session.specs.Recited.{nth}
 use Rattle.session.specs.Reports.{report_text}
@@ -39,23 +38,32 @@ taken c (Err why) = (Err (refusal.Table why), c)
 abbrev pub loaded_in : Content → List ℕ → Result (Unit {0}) Refusal × Content
 loaded_in c text = taken c (read text)
 
+-- what reading, asking and playing answer, as a session's answer
+abbrev pub as_table : {A : Type 0} → Result A Unreadable → Result (Unit {0}) Refusal
+as_table (Ok t) = Ok tt
+as_table (Err why) = Err (refusal.Table why)
+
+abbrev pub as_question : Result (Unit {0}) Unasked → Result (Unit {0}) Refusal
+as_question (Ok u) = Ok tt
+as_question (Err why) = Err (refusal.Question why)
+
 abbrev pub as_run : Result Played Fault → Result Played Refusal
 as_run (Ok p) = Ok p
 as_run (Err fault) = Err (refusal.Run fault)
 
 -- put: the question of these numbers, open, at the first run; or a refusal and what was held before. A table that was read has a
 -- shape for every question that is judged right, so that there is none does not occur.
-abbrev pub put_by : Content → Result (Unit {0}) Unasked → Option Question → Result (Unit {0}) Refusal × Content
-put_by c (Ok u) (Some q) = (Ok tt, record { table = c.table; inquiry = Some (record { question = q; verdict = verdict.More; run = [] }) })
-put_by c (Ok u) None = (Ok tt, c)
-put_by c (Err why) q = (Err (refusal.Question why), c)
+abbrev pub put_with : Content → Result (Unit {0}) Unasked → Option Question → Result (Unit {0}) Refusal × Content
+put_with c (Ok u) (Some q) = (Ok tt, record { table = c.table; inquiry = Some (record { question = q; verdict = verdict.More; run = [] }) })
+put_with c (Ok u) None = (Ok tt, c)
+put_with c (Err why) q = (Err (refusal.Question why), c)
 
 abbrev pub put_in : Content → ℕ → ℕ → List ℕ → Result (Unit {0}) Refusal × Content
-put_in c n k targets = put_by c (judged c.table n k targets) (question_by c.table n k targets)
+put_in c n k targets = put_with c (judged c.table n k targets) (question_by c.table n k targets)
 
--- what a look answers, and where it stops; after the last run at the run of no moves
+-- what a look answers, and where it stops
 abbrev pub looked : Question → Look → Worked × Inquiry
-looked q l = (record { units = l.units; verdict = l.verdict }, record { question = q; verdict = l.verdict; run = front l.left })
+looked q l = (record { units = l.units; verdict = l.verdict }, inquiry_at q l)
 
 -- no run is looked at
 abbrev pub unlooked : Verdict → Inquiry → Worked × Inquiry
@@ -123,7 +131,7 @@ standing_by t None = record { stage = cond (is_nothing t) stage.New stage.Table;
 abbrev pub standing_in : Content → Standing
 standing_in c = standing_by c.table c.inquiry
 
--- what a session holds after a call; the calls that are not named leave it
+-- what a session holds after a call; standing, step, replay and report leave it
 abbrev pub content_next : {Config : Type 0} → Machine Config → Content → call.Call → Content
 content_next m c (call.load text) = (loaded_in c text).1
 content_next m c (call.put n k targets) = (put_in c n k targets).1

@@ -33,8 +33,7 @@ use Rattle.session.specs.declared.steps.Step.{Step}
 use Rattle.session.specs.Recited.{records_of, nth}
 use Rattle.session.specs.Reports.{verdict_fields}
 use Rattle.session.specs.Series.{Call, Book, blank, held, asked, booked}
-use Rattle.session.specs.Answers.{as_table, as_question}
-use Rattle.session.specs.Outcomes.{as_run}
+use Rattle.session.specs.Outcomes.{as_question, as_run, as_table}
 use Rattle.session.specs.Spent.{spent}
 
 -- what is answered to a text, and the table then

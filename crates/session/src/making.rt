@@ -14,8 +14,8 @@ use program::Table;
 use runs::Cursor;
 
 impl<M: Memory + Drop> Session<M> {
-    // A new session over a memory as it is. It is not for callers: over a memory that does no fences a process would wait at each for
-    // ever, and an answer of none be untrue.
+    // A new session over a memory as it is. It is not for callers: over a memory that does no fences every process would
+    // wait at its first fence for ever, and an answer of none would be untrue.
     fn over(memory: M) -> Session<M>
         ensures { After M.machine [] (content result) }
     {

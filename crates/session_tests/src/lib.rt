@@ -1,6 +1,5 @@
 // Tests of the crates `session` and `sitting` from outside: each call before and after a table, a question and an answer,
-// and the refusals that a sitting cannot write. They stand apart so that the libraries
-// are not proved again for them.
+// and the refusal that a sitting cannot write. They stand apart so that the libraries are not proved again for them.
 
 #![tactic(auto)]
 
@@ -51,7 +50,7 @@ mod tests {
     }
 
     #[test]
-    fn a_new_session_has_nothing_to_tell(rt: HostRuntime) -> Result<(), Fail> {
+    fn a_new_session_has_nothing_to_tell(rt: HostRuntime) {
         let mut session = release_acquire();
         let mut out = [7; 30];
         assert_eq!(rt; u8::from(session.standing().stage), 0);
@@ -61,7 +60,6 @@ mod tests {
         assert_eq!(rt; number(session.report(&mut out)), 61);
         assert!(rt; session.step(1).is_none());
         assert!(rt; out == [7; 30]);
-        Ok(())
     }
 
     // A session with store buffering, and its question.
@@ -84,7 +82,7 @@ mod tests {
     }
 
     #[test]
-    fn a_question_is_answered(rt: HostRuntime) -> Result<(), Fail> {
+    fn a_question_is_answered(rt: HostRuntime) {
         let mut session = asked(&rt);
         assert_eq!(rt; number(session.work(0)), 32);
         assert_eq!(rt; number(session.work(1_000_001)), 32);
@@ -100,7 +98,6 @@ mod tests {
             steps: 8,
         };
         assert_eq!(rt; session.standing(), found);
-        Ok(())
     }
 
     #[test]
@@ -119,7 +116,7 @@ mod tests {
     }
 
     #[test]
-    fn a_report_is_written(rt: HostRuntime) -> Result<(), Fail> {
+    fn a_report_is_written(rt: HostRuntime) {
         let mut session = asked(&rt);
         let mut open = [7; 26];
         assert_eq!(rt; session.report(&mut open).ok(), Some(25));
@@ -131,22 +128,20 @@ mod tests {
         let mut out = [7; 225];
         assert_eq!(rt; session.report(&mut out).ok(), Some(225));
         assert!(rt; &out[25..] == RUN);
-        Ok(())
     }
 
     #[test]
-    fn runs_are_replayed(rt: HostRuntime) -> Result<(), Fail> {
+    fn runs_are_replayed(rt: HostRuntime) {
         let mut session = asked(&rt);
         assert_eq!(rt; number(session.replay(RUN)), 0);
         assert_eq!(rt; number(session.replay(&RUN[..175])), 56);
         assert_eq!(rt; number(session.replay(&RUN[25..])), 51);
         assert_eq!(rt; number(session.replay(&RUN[1..])), 42);
-        Ok(())
     }
 
     // A refused call leaves the answer, a put begins again, and a load ends the question.
     #[test]
-    fn answers_come_and_go(rt: HostRuntime) -> Result<(), Fail> {
+    fn answers_come_and_go(rt: HostRuntime) {
         let mut session = asked(&rt);
         works(&rt, &mut session, &[(9, units(9, Verdict::Found))]);
         assert_eq!(rt; number(session.put(25, 0, [0; 4])), 22);
@@ -159,7 +154,6 @@ mod tests {
         assert_eq!(rt; u8::from(session.standing().stage), 4);
         assert_eq!(rt; number(session.load(STORE_BUFFERING)), 0);
         assert_eq!(rt; u8::from(session.standing().stage), 1);
-        Ok(())
     }
 
     #[test]

@@ -7,9 +7,9 @@ use Rattle.program.specs.Reading.{read}
 use Rattle.runs.specs.declared.lines.Wish.{Wish}
 use Rattle.session.specs.declared.refusals.Refusal.{Refusal}
 use Rattle.session.specs.Contents.{Content}
-use Rattle.session.specs.Outcomes.{loaded_in, put_in, taken}
+use Rattle.session.specs.Outcomes.{as_table, loaded_in, put_in, taken}
 use Rattle.session.specs.Series.{blank, booked, load_on, put_on}
-use Rattle.session.specs.Answers.{as_table, loaded, opened, reported}
+use Rattle.session.specs.Answers.{loaded, opened, reported}
 use Rattle.session.specs.Law.{content_of}
 use Rattle.session.proofs.Laws.{at_once}
 use Rattle.session.proofs.Loads.{put_value}

@@ -38,10 +38,10 @@ use Rattle.replay.specs.Written.{run_fields}
 use Rattle.session.specs.declared.refusals.Refusal.{Refusal}
 use Rattle.session.specs.declared.refusals.Refusal.TheVariants as refusal
 use Rattle.session.specs.Contents.{if_found}
-use Rattle.session.specs.Outcomes.{put_out}
+use Rattle.session.specs.Outcomes.{as_question, as_table, put_out}
 use Rattle.session.specs.Reports.{verdict_fields}
 use Rattle.session.specs.Series.{Book, blank, held, asked, booked, from, load_on, put_by, put_on, work_on}
-use Rattle.session.specs.Answers.{as_question, as_table, opened, reported}
+use Rattle.session.specs.Answers.{opened, reported}
 use Rattle.session.specs.Words.{Known, report_of}
 use Rattle.session.proofs.Books.{Asking}
 use Rattle.session.proofs.Frees.{found_free}

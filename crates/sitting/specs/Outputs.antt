@@ -64,6 +64,6 @@ abbrev pub sat_by : Result (Wish × List ℕ) Refusal → List ℕ → Result �
 sat_by (Ok request) out = sat_over request.0.memory request.0 request.1 out
 sat_by (Err why) out = let line = told why out in (Ok line.0, line.1)
 
--- the one outcome, where there is memory for a session
+-- the one outcome
 abbrev pub sat_in : List ℕ → List ℕ → Result ℕ Refusal × List ℕ
 sat_in input out = cond (nat_le 625 (length out)) (sat_by (asked_in input) out) (Err Buffer, out)

@@ -90,19 +90,19 @@ abbrev pub SeatSays : Wish → List ℕ → List ℕ → Result ℕ Refusal → 
 SeatSays w text out (Ok n) new = (625 ≤ length out) × Written w text out n new (Answer w.memory w out n new)
 SeatSays w text out (Err why) new = TooShort why out new
 
--- The input is as long as one may be.
-abbrev pub Long : List ℕ → Type 0
-Long input = (29 ≤ length input) × (length input ≤ 4000)
+-- The input has from 29 to 4,000 bytes.
+abbrev pub Sized : List ℕ → Type 0
+Sized input = (29 ≤ length input) × (length input ≤ 4000)
 
 -- It begins with the line of no wish, and the line tells that.
 pub record NoLine (input out : List ℕ) (n : ℕ) (new : List ℕ) : Type 0 where
-  pub long : Long input
+  pub sized : Sized input
   pub wrong : (w : Wish) (line text : List ℕ) → input ≡ line ++ text → LineOf w line → ⊥
   pub line : LineTold out n new refusal.QuestionLine
 
 -- It is the line of a wish, and then a text.
 pub record OfLine (input out : List ℕ) (n : ℕ) (new : List ℕ) : Type 0 where
-  pub long : Long input
+  pub sized : Sized input
   pub wish : Wish
   pub line : List ℕ
   pub text : List ℕ
@@ -113,5 +113,5 @@ pub record OfLine (input out : List ℕ) (n : ℕ) (new : List ℕ) : Type 0 whe
 -- What is written for an input: the line of its wrong length, that of its wrong question line, or what belongs to its wish.
 abbrev pub SittingSays : List ℕ → List ℕ → Result ℕ Refusal → List ℕ → Type 0
 SittingSays input out (Ok n) new =
-    (625 ≤ length out) × (((Long input → ⊥) × LineTold out n new refusal.Input) ⊎ NoLine input out n new ⊎ OfLine input out n new)
+    (625 ≤ length out) × (((Sized input → ⊥) × LineTold out n new refusal.Input) ⊎ NoLine input out n new ⊎ OfLine input out n new)
 SittingSays input out (Err why) new = TooShort why out new
