@@ -1,2 +1,3 @@
 pub mod Numerals
 pub mod Cases
+pub mod Batches

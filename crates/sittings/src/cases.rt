@@ -1,6 +1,14 @@
-ghost use Rattle.std.specs.Prelude.{◌≡◌, true, ◌∷◌, ◌++◌, IfSome};
-ghost use Rattle.sittings.specs.Cases.{Begins};
-ghost use Rattle.sittings.specs.Numerals.{are_digits, numeral};
+// The cases of a batch. A case is a line of two numbers, how many bytes its input has and how many its buffer, and then
+// the input.
+
+ghost use Rattle.std.specs.Prelude.{◌≡◌, ◌==◌, ◌≤◌, length};
+ghost use Rattle.std.specs.List.{position};
+ghost use Rattle.std.specs.Option.{option_map};
+ghost use Rattle.sittings.specs.Cases.{BeginsWith, case_of, cut, the_case, the_parts};
+ghost use Rattle.sittings.specs.Numerals.{digits_from, number_of};
+
+// The most digits of a number.
+const MOST_DIGITS: usize = 9;
 
 // An input, the room of its buffer, and what follows in the batch.
 #[derive(Clone, Copy)]
@@ -10,37 +18,55 @@ pub(crate) struct Case<'a> {
     pub(crate) rest: &'a [u8],
 }
 
-// The number that some digits write.
-fn number(digits: &[u8]) -> Option<usize>
-    ensures { IfSome result (λ n. (are_digits digits.now ≡ true) × (n ≡ numeral digits.now)) }
+// The number that digits write.
+fn digits(word: &[u8]) -> Option<usize>
+    requires { length word.now ≤ 9 }
+    ensures { result ≡ digits_from 0 word.now }
 {
-    let mut number: usize = 0;
-    for digit in digits {
+    let mut number = 0;
+    for digit in word {
         if !digit.is_ascii_digit() {
             return None;
         }
-        number = number
-            .checked_mul(10)?
-            .checked_add(usize::from(digit - b'0'))?;
+        number = number * 10 + usize::from(*digit - b'0');
     }
     Some(number)
 }
 
-// What stands before the first such byte, and what follows it.
-fn split(bytes: &[u8], mark: u8) -> Option<(&[u8], &[u8])>
-    ensures { IfSome result (λ parts. bytes.now ≡ parts.0.now ++ (mark ∷ parts.1.now)) }
+// The number that a word writes.
+fn number(word: &[u8]) -> Option<usize>
+    ensures { result ≡ number_of word.now }
 {
-    let at = bytes.iter().position(|byte| *byte == mark)?;
-    Some((&bytes[..at], &bytes[at + 1..]))
+    if !(1..=MOST_DIGITS).contains(&word.len()) {
+        return None;
+    }
+    digits(word)
 }
 
-// The first case of a batch, if it begins with one.
+// Where the mark stands first.
+fn place(text: &[u8], mark: u8) -> Option<usize>
+    ensures { result ≡ position (λ b. b == mark) text.now }
+{
+    text.iter().position(|byte| *byte == mark)
+}
+
+// What stands before the first mark, and what follows it.
+fn split(text: &[u8], mark: u8) -> Option<(&[u8], &[u8])>
+    ensures { option_map the_parts result ≡ cut mark text.now }
+{
+    let at = place(text, mark)?;
+    Some((&text[..at], &text[at + 1..]))
+}
+
+// The case with which a batch begins.
 pub(crate) fn first_case(batch: &[u8]) -> Option<Case<'_>>
-    ensures { IfSome result (λ c. Begins batch.now c.input.now c.room c.rest.now) }
+    ensures value { option_map the_case result ≡ case_of batch.now }
+    ensures only { BeginsWith batch.now (option_map the_case result) }
 {
     let (length, rest) = split(batch, b' ')?;
+    let length = number(length)?;
     let (room, rest) = split(rest, b'\n')?;
-    let (input, rest) = rest.split_at_checked(number(length)?)?;
     let room = number(room)?;
+    let (input, rest) = rest.split_at_checked(length)?;
     Some(Case { input, room, rest })
 }

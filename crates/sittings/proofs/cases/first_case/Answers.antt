@@ -1,22 +1,25 @@
-use Rattle.std.proofs.Common.{◌≡◌, ℕ, List, ◌∷◌, ◌++◌, take, drop, length, sym, ap, ap₂, ◌∙◌}
-use Rattle.std.proofs.lemmas.List.{length-take-le, take-append-drop}
+-- Wherever the reading ends, what was read is the case with which the batch begins.
+use Rattle.std.proofs.Common.{Some, rules}
+use Rattle.sittings.specs.Cases.{First}
+use Rattle.sittings.proofs.Readings.{begins_with}
 use Rattle.sittings.proofs.cases.first_case.Goals as goal
 
--- a line of two parts, and what follows it
-parted : (batch a rest b case input after : List ℕ) (n : ℕ) → batch ≡ a ++ (32 ∷ rest) → rest ≡ b ++ (10 ∷ case)
-    → input ≡ take n case → after ≡ drop n case → batch ≡ a ++ (32 ∷ (b ++ (10 ∷ (input ++ after))))
-parted batch a rest b case input after n first second front back =
-    let whole : case ≡ input ++ after = sym (take-append-drop n case) ∙ ap₂ (λ (x y : List ℕ). x ++ y) (sym front) (sym back) in
-    first ∙ ap (λ (x : List ℕ). a ++ (32 ∷ x)) (second ∙ ap (λ (x : List ℕ). b ++ (10 ∷ x)) whole)
+pub returns-in_err-length-clause-only : goal.returns-in_err-length-clause-only
+returns-in_err-length-clause-only c = begins_with c.args.batch.now _ (search rules)
 
-pub returns : goal.returns
-returns c = record {
-  size = c.in_ok-length.length.now;
-  space = c.in_ok-room.room.now;
-  batch_is =
-      parted c.args.batch.now c.in_ok-length.length.now c.in_ok-length.rest.now c.in_ok-room.room.now c.in_ok-room.rest.now c.in_ok-input.input.now c.in_ok-input.rest.now c.in_ok-number.field-0
-      c.in_ok-length.ensures c.in_ok-room.ensures c.in_ok-input.ensures.cases.1 c.in_ok-input.ensures.cases.2;
-  digits = (c.in_ok-number.ensures.0, c.in_ok-room-2.ensures.0);
-  size_is = sym c.in_ok-number.ensures.1 ∙ sym (ap length c.in_ok-input.ensures.cases.1 ∙ length-take-le c.in_ok-number.field-0 c.in_ok-room.rest.now c.in_ok-input.ensures.cases.0);
-  room_is = sym c.in_ok-room-2.ensures.1;
-}
+pub returns-in_err-length-2-clause-only : goal.returns-in_err-length-2-clause-only
+returns-in_err-length-2-clause-only c = begins_with c.args.batch.now _ (search rules)
+
+pub returns-in_err-room-clause-only : goal.returns-in_err-room-clause-only
+returns-in_err-room-clause-only c = begins_with c.args.batch.now _ (search rules)
+
+pub returns-in_err-room-2-clause-only : goal.returns-in_err-room-2-clause-only
+returns-in_err-room-2-clause-only c = begins_with c.args.batch.now _ (search rules)
+
+pub returns-in_err-input-clause-only : goal.returns-in_err-input-clause-only
+returns-in_err-input-clause-only c = begins_with c.args.batch.now _ (search rules)
+
+pub returns-clause-only : goal.returns-clause-only
+returns-clause-only c =
+    let case : First = record { input = c.in_ok-input.input.now; room = c.in_ok-room-2.room; rest = c.in_ok-input.rest.now } in
+    begins_with c.args.batch.now (Some case) (search rules)

@@ -1,0 +1,4 @@
+mod Readings
+mod Rooms
+mod Turns
+mod Words
