@@ -1,7 +1,6 @@
 //! Batches of cases.
 
 use std::io::{self, Write};
-use std::process::ExitCode;
 
 use crate::answer::answer;
 use crate::lines::SHORTEST_BUFFER;
@@ -11,9 +10,12 @@ struct Case<'a> {
     buffer: usize,
 }
 
-/// The number of a word of digits.
+/// The most digits of a number.
+const MOST_DIGITS: usize = 9;
+
+/// The number of a word of 1 to 9 digits.
 fn decimal(word: &[u8]) -> Option<usize> {
-    if !word.iter().all(u8::is_ascii_digit) {
+    if word.len() > MOST_DIGITS || !word.iter().all(u8::is_ascii_digit) {
         return None;
     }
     std::str::from_utf8(word).ok()?.parse().ok()
@@ -31,33 +33,29 @@ fn next_case<'a>(batch: &mut &'a [u8]) -> Option<Case<'a>> {
     Some(Case { input, buffer })
 }
 
-/// All cases, or where the first one that cannot be read begins. The whole batch is read before any case of it
-/// is answered.
-fn cases_of(batch: &[u8]) -> Result<Vec<Case<'_>>, usize> {
-    let mut rest = batch;
-    let mut cases = Vec::new();
-    while !rest.is_empty() {
-        let begin = batch.len() - rest.len();
-        cases.push(next_case(&mut rest).ok_or(begin)?);
+fn answer_case(case: &Case, out: &mut impl Write) -> io::Result<()> {
+    if case.buffer < SHORTEST_BUFFER {
+        writeln!(out, "refused 73")
+    } else {
+        let text = answer(case.input);
+        write!(out, "{}\n{text}", text.len())
     }
-    Ok(cases)
 }
 
-pub fn answer_batch(batch: &[u8], out: &mut impl Write) -> io::Result<ExitCode> {
-    let cases = match cases_of(batch) {
-        Ok(cases) => cases,
-        Err(begin) => {
-            eprintln!("sitting: the case at byte {begin} of the batch cannot be read");
-            return Ok(ExitCode::FAILURE);
-        }
-    };
-    for case in cases {
-        if case.buffer < SHORTEST_BUFFER {
-            writeln!(out, "refused 73")?;
-        } else {
-            let text = answer(case.input);
-            write!(out, "{}\n{text}", text.len())?;
-        }
+/// Answers the cases, up to the first that cannot be read.
+pub fn answer_batch(batch: &[u8], out: &mut impl Write) -> io::Result<()> {
+    let mut rest = batch;
+    let mut number = 1;
+    while !rest.is_empty() {
+        let Some(case) = next_case(&mut rest) else {
+            return writeln!(
+                out,
+                "case {number} cannot be read: a case is a line of two numbers, the bytes of its input and of its \
+                 buffer, and then its input"
+            );
+        };
+        answer_case(&case, out)?;
+        number += 1;
     }
-    Ok(ExitCode::SUCCESS)
+    Ok(())
 }

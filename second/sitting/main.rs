@@ -7,7 +7,7 @@
 //!
 //! A case of a batch is a line of two decimal numbers, the bytes of the input and the bytes of the buffer, and then
 //! the input itself. Its answer is a line with the number of bytes written and then these bytes, or `refused 73`
-//! where the buffer is too short. A batch that cannot be read ends the program with status 1.
+//! where the buffer is too short. What is left and is no case ends the answers with a line that says so.
 
 mod answer;
 mod batch;
@@ -37,7 +37,10 @@ fn run() -> io::Result<ExitCode> {
     let words: Vec<&str> = words.iter().map(String::as_str).collect();
     let mut out = io::BufWriter::new(io::stdout().lock());
     let status = match words[..] {
-        [] => answer_batch(&read_all()?, &mut out)?,
+        [] => {
+            answer_batch(&read_all()?, &mut out)?;
+            ExitCode::SUCCESS
+        }
         ["one"] => {
             out.write_all(answer(&read_all()?).as_bytes())?;
             ExitCode::SUCCESS
