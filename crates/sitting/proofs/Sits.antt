@@ -1,54 +1,42 @@
 -- What a sitting writes, in a reader's words.
 -- The works of a sitting are one effort of a thousand million; what is known after that effort is said of the bytes.
-use Rattle.std.proofs.Common.{◌≡◌, ℕ, zero, suc, ◌+◌, ◌*◌, ◌≤◌, ◌⊎◌, inl, inr, Bool, true, false, cond, List, [], ◌∷◌, length, Some, Ok, Err, Result, nat_le, refl, sym, ap, ap₂, ◌∙◌, arith}
+use Rattle.std.proofs.Common.{◌≡◌, ℕ, zero, suc, ◌+◌, ◌*◌, ◌≤◌, ◌⊎◌, inl, inr, Bool, true, false, cond, List, length, Some, Ok, Err, Result, nat_le, refl, sym, ap, ap₂, ◌∙◌, arith}
 use Rattle.std.proofs.lemmas.Bool.{cond-false, cond-true, le-leb, leb-false, leb-true}
-use Rattle.std.proofs.lemmas.List.{length-append}
-use Rattle.text.specs.Lines.{line_text}
 use Rattle.text.specs.Writing.{over as written_over}
-use Rattle.text.proofs.Lines.{length_line}
 use Rattle.memory.specs.declared.actions.Action.{Action}
 use Rattle.memory.specs.Machine.{Machine}
-use Rattle.ceiling.specs.declared.moves.Move.{Move}
 use Rattle.ceiling.specs.Ceiling.{memory as weak}
-use Rattle.ceiling.specs.Programs.{World, next, opening}
 use Rattle.program.specs.declared.refusals.Refusal.{Refusal as Unreadable}
-use Rattle.program.specs.Program.{Program, lines_text, nothing, proper}
+use Rattle.program.specs.Program.{Program, nothing, proper}
 use Rattle.program.specs.Reading.{read}
 use Rattle.program.specs.Source.{Accepted, Refused, SaysOf}
 use Rattle.program.specs.Tables.{taken_in}
 use Rattle.program.proofs.Blocks.{proper_source}
 use Rattle.program.proofs.Texts.{read_is}
 use Rattle.program.proofs.Words.{accepts}
-use Rattle.worlds.specs.declared.places.Place.{Place}
-use Rattle.worlds.specs.Worlds.{over, record_of}
 use Rattle.runs.specs.declared.lines.Wish.{Wish}
 use Rattle.runs.specs.declared.questions.Question.{Question}
-use Rattle.runs.specs.declared.verdicts.Verdict.{Verdict}
-use Rattle.runs.specs.declared.verdicts.Verdict.TheVariants.{More, Found, None}
 use Rattle.runs.specs.declared.questions.Unasked.{Unasked}
 use Rattle.runs.specs.Askable.{Askable}
-use Rattle.runs.specs.Asked.{judged, question_by, system}
+use Rattle.runs.specs.Asked.{judged, question_by}
 use Rattle.runs.specs.First.{front}
-use Rattle.runs.specs.Runs.{switches_of}
 use Rattle.runs.specs.Searches.{shown}
 use Rattle.runs.proofs.Asked.{asked_by, asks_of}
 use Rattle.runs.proofs.Judged.{judges}
-use Rattle.replay.specs.Playing.{record_fields}
-use Rattle.replay.specs.Written.{run_fields}
 use Rattle.session.specs.declared.refusals.Refusal.{Refusal}
 use Rattle.session.specs.declared.refusals.Refusal.TheVariants as refusal
 use Rattle.session.specs.Contents.{if_found}
 use Rattle.session.specs.Outcomes.{as_question, as_table, put_out}
-use Rattle.session.specs.Reports.{verdict_fields}
 use Rattle.session.specs.Series.{Book, blank, held, asked, booked, from, load_on, put_by, put_on, work_on}
 use Rattle.session.specs.Answers.{opened, reported}
-use Rattle.session.specs.Words.{Known, report_of}
+use Rattle.session.specs.Words.{report_of}
 use Rattle.session.proofs.Books.{Asking}
 use Rattle.session.proofs.Frees.{found_free}
 use Rattle.session.proofs.Knows.{asked_some, known}
 use Rattle.session.proofs.Tellings.{ok_one, report_is}
 use Rattle.sitting.specs.Outputs.{answered, calls, in_a_line, load_call, put_calls, sat, told, unless_refused, works}
 use Rattle.sitting.specs.Sits.{LineTold, NoQuestion, NoTable, OfTable, Reports, Sits, TooShort, Weakly, Written}
+use Rattle.sitting.proofs.Lengths.{report_short}
 use Rattle.sitting.proofs.Settles.{works_more, works_none}
 
 err_one : {A E : Type 0} {a b : E} → ◌≡◌ {A = Result A E} (Err a) (Err b) → a ≡ b
@@ -59,19 +47,6 @@ ok_line : (out new : List ℕ) (n : ℕ) (why : Refusal)
     → ◌≡◌ {A = Result ℕ Refusal × List ℕ} (Ok n, new) (Ok (told why out).0, (told why out).1) → LineTold out n new why
 ok_line out new n why e = ap₂ (λ (k : ℕ) (z : List ℕ). (k, z)) (ok_one (ap (λ (y : Result ℕ Refusal × List ℕ). y.0) e)) (ap (λ (y : Result ℕ Refusal × List ℕ). y.1) e)
 
-module _ {Config : Type 0} (m : Machine Config) (t : Program) where
-  length_run : (w : World Config Place) (i : ℕ) (r : List Move) → length (lines_text (run_fields m t w i r)) ≡ 25 * length r
-  length_run w i [] = refl
-  length_run w i (k ∷ ks) =
-      length-append (line_text (record_fields i (record_of m t w k))) (lines_text (run_fields m t (next m (over t) w k) (i + 1) ks))
-      ∙ omega (arith, length_line (record_fields i (record_of m t w k)), length_run (next m (over t) w k) (i + 1) ks)
-
-  length_report : (q : Question) (v : Verdict) (r : List Move) → length (report_of m t q v r) ≡ 25 * (1 + length r)
-  length_report q v r =
-      let w = opening m (over t) q.shape in
-      let first = verdict_fields v (length r) (switches_of (system m t) w r) in
-      length-append (line_text first) (lines_text (run_fields m t w 1 r)) ∙ omega (arith, length_line first, length_run w 1 r)
-
 -- a thousand works add a million each
 pub works_asked : (t : Program) (q : Question) (E n : ℕ) → from (asked t q E) (works n) ≡ asked t q (E + 1000000 * n)
 works_asked t q E zero = let e : E ≡ E + 1000000 * 0 = omega arith in sym (works_none (asked t q E)) ∙ ap (asked t q) e
@@ -80,24 +55,13 @@ works_asked t q E (suc n) =
     works_more (asked t q E) n ∙ ap (λ (b : Book). work_on b 1000000) (works_asked t q E n) ∙ ap (asked t q) e
 
 module _ {Config : Type 0} (m : Machine Config) (widest : ℕ) (bounded : (s : Config) (p : ℕ) (a : Action) → m.offer s p a ≤ widest) where
-  -- the found run is one within bounds
-  few_steps : (t : Program) (q : Question) (E U : ℕ) (v : Verdict) (x : List Move) → Known m widest t q E U v x → length (if_found v x) ≤ 24
-  few_steps t q E U Found x k =
-      let first = ((k.tells.settled (λ e. cc)).found x).0 (refl, refl) in
-      omega (arith, first.within.moves, q.short)
-  few_steps t q E U More x k = omega arith
-  few_steps t q E U None x k = omega arith
-
   -- the report of what any effort shows, which has room in a buffer of 625 bytes
   abbrev pub report : Program → Question → ℕ → List ℕ
   report t q E = let l = shown m t q E in report_of m t q l.verdict (if_found l.verdict (front l.left))
 
   module _ (t : Program) (q : Question) (E : ℕ) (out : List ℕ) (room : 625 ≤ length out) where
     short : length (report t q E) ≤ length out
-    short =
-        let l = shown m t q E in
-        let r = if_found l.verdict (front l.left) in
-        omega (arith, few_steps t q E l.units l.verdict (front l.left) (known m widest bounded t q E), length_report m t q l.verdict r)
+    short = omega (arith, report_short m t q E)
 
     pub fits : reported m (asked t q E) out ≡ (Ok (length (report t q E)), written_over (report t q E) out)
     fits =

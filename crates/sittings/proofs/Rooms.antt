@@ -1,8 +1,8 @@
 -- A sitting writes at most 625 bytes, and looks only at whether its buffer has so many. So what is printed of a sitting is the
 -- same in every buffer that has.
-use Rattle.std.proofs.Common.{◌≡◌, ℕ, ◌+◌, ◌*◌, ◌<◌, ◌≤◌, Bool, true, false, leb, min, List, [], ◌∷◌, ◌++◌, length, take, drop, replicate, Ok, Err, Result, codes, decimal, refl, sym, ap, ap₂, ◌∙◌, subst, arith}
+use Rattle.std.proofs.Common.{◌≡◌, ℕ, ◌<◌, ◌≤◌, Bool, true, false, leb, min, List, [], ◌∷◌, ◌++◌, length, take, drop, replicate, Ok, Err, Result, codes, decimal, refl, sym, ap, ap₂, ◌∙◌, subst, arith}
 use Rattle.std.proofs.lemmas.Bool.{cond-true, le-leb, leb-true, leb-false}
-use Rattle.std.proofs.lemmas.List.{length-append, length-replicate}
+use Rattle.std.proofs.lemmas.List.{length-replicate}
 use Rattle.std.proofs.Math.Seq.{take-append_seam}
 use Rattle.text.specs.Lines.{line_text}
 use Rattle.text.specs.Writing.{over as written_over}
@@ -13,31 +13,16 @@ use Rattle.memory.specs.Fences.{fenced}
 use Rattle.memory.specs.Machine.{Machine}
 use Rattle.memory.specs.Sequential as sequential
 use Rattle.memory.specs.ReleaseAcquire as release_acquire
-use Rattle.ceiling.specs.declared.moves.Move.{Move}
-use Rattle.ceiling.specs.Programs.{World, next, opening}
-use Rattle.program.specs.Program.{Program, lines_text}
-use Rattle.worlds.specs.declared.places.Place.{Place}
-use Rattle.worlds.specs.declared.records.Record.{Record}
-use Rattle.worlds.specs.Worlds.{over}
 use Rattle.runs.specs.declared.lines.Wish.{Wish}
-use Rattle.runs.specs.declared.questions.Question.{Question}
-use Rattle.runs.specs.declared.verdicts.Verdict.{Verdict}
-use Rattle.runs.specs.declared.verdicts.Verdict.TheVariants.{More, Found, None}
-use Rattle.runs.specs.First.{front}
-use Rattle.runs.specs.Searches.{shown, Tells}
-use Rattle.runs.proofs.Works.{tells_by}
-use Rattle.replay.specs.Playing.{record_fields}
 use Rattle.session.specs.declared.refusals.Refusal.{Refusal}
 use Rattle.session.specs.declared.refusals.Refusal.TheVariants as refusal
-use Rattle.session.specs.Answers.{found_run, found_steps, loaded, opened, reported}
-use Rattle.session.specs.Contents.{if_found}
+use Rattle.session.specs.Answers.{loaded, opened, reported, text_after}
 use Rattle.session.specs.Notices.{notice}
 use Rattle.session.specs.Outcomes.{put_out}
-use Rattle.session.specs.Recited.{records_of}
-use Rattle.session.specs.Reports.{numbered, report_text, switches_in, verdict_fields}
 use Rattle.session.specs.Series.{Book, blank, held, asked, booked}
 use Rattle.sitting.specs.Inputs.{asked_in}
 use Rattle.sitting.specs.Outputs.{answered, calls, in_a_line, load_call, sat, sat_by, sat_in, sat_over, told, unless_refused}
+use Rattle.sitting.proofs.Lengths.{text_short}
 use Rattle.sittings.specs.Batches.{outcome_text}
 
 -- two outcomes of which the same is printed: a refusal, or so many bytes at the front of the buffers
@@ -60,30 +45,6 @@ printed (Err e, a) (Ok k, b) h = absurd h
 -- what is held after a text was written at the front
 front_of : (text out : List ℕ) → take (length text) (written_over text out) ≡ text
 front_of text out = take-append_seam text (drop (length text) out)
-
--- The found run has at most 24 steps, so a report has at most 25 lines.
-module _ {Config : Type 0} (m : Machine Config) (t : Program) where
-  few_steps : (q : Question) (E U : ℕ) (v : Verdict) (r : List Move) → Tells m t q E U v r → length (if_found v r) ≤ 24
-  few_steps q E U Found r k =
-      let first = ((k.settled (λ e. cc)).found r).0 (refl, refl) in
-      omega (arith, first.within.moves, q.short)
-  few_steps q E U More r k = omega arith
-  few_steps q E U None r k = omega arith
-
-  length_records : (w : World Config Place) (r : List Move) → length (records_of m t w r) ≡ length r
-  length_records w [] = refl
-  length_records w (k ∷ ks) = omega (arith, length_records (next m (over t) w k) ks)
-
-length_numbered : (i : ℕ) (rs : List Record) → length (lines_text (numbered i rs)) ≡ 25 * length rs
-length_numbered i [] = refl
-length_numbered i (r ∷ rs) =
-    length-append (line_text (record_fields i r)) (lines_text (numbered (i + 1) rs))
-    ∙ omega (arith, length_line (record_fields i r), length_numbered (i + 1) rs)
-
-length_report : (v : Verdict) (rs : List Record) → length (report_text v rs) ≡ 25 * (1 + length rs)
-length_report v rs =
-    let first = verdict_fields v (length rs) (switches_in rs) in
-    length-append (line_text first) (lines_text (numbered 1 rs)) ∙ omega (arith, length_line first, length_numbered 1 rs)
 
 -- a refusal is told by the same line
 told_same : (why : Refusal) (a b : List ℕ) → take 25 (told why a).1 ≡ take 25 (told why b).1
@@ -116,13 +77,7 @@ module _ (a b : List ℕ) (long_a : 625 ≤ length a) (long_b : 625 ≤ length b
     unfolding Same
     report_same blank = refl
     report_same (held t) = refl
-    report_same (asked t q E) =
-        let l = shown m t q E in
-        let tells = tells_by m t q E l.units l.verdict (front l.left) refl refl (λ _. refl) in
-        let few = few_steps m t q E l.units l.verdict (front l.left) tells in
-        let steps = found_steps m t q l in
-        put_same (report_text l.verdict steps)
-        (omega (arith, few, length_report l.verdict steps, length_records m t (opening m (over t) q.shape) (found_run l)))
+    report_same (asked t q E) = put_same (text_after m t q E) (text_short m t q E)
 
     line_same : (x y : Result ℕ Refusal × List ℕ) → Same x y → Same (in_a_line m x) (in_a_line m y)
     unfolding Same
