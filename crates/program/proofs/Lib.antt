@@ -18,6 +18,8 @@ pub mod Lookup
 pub mod Starts
 pub mod Pages
 pub mod Words
+pub mod TooLong
+pub mod WrongLines
 pub mod Faulted
 pub mod FaultedRows
 pub mod Taken

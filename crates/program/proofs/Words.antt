@@ -5,13 +5,13 @@ use Rattle.program.specs.declared.refusals.Refusal.TheVariants.{Length, Field}
 use Rattle.std.specs.List.{AllByRecursion}
 use Rattle.program.specs.Faults.{Faulty, Headed, Judged}
 use Rattle.program.specs.Program.{Program, Six, lines_text, proper, rows_fit}
-use Rattle.program.specs.Reading.{then_do, line_count, lines, numbers, lines_read, header_read, named, rows_read, ends_read, body_read, table_read, read}
+use Rattle.program.specs.Reading.{then_do, lines_read, header_read, named, rows_read, ends_read, body_read, table_read, read}
 use Rattle.program.specs.Source.{TextOf, Accepted, SaysOf}
 use Rattle.program.specs.Tables.{taken_in}
 use Rattle.program.proofs.Blocks.{blocks, proper_source}
-use Rattle.program.proofs.Faulted.{no_lines, no_numbers, no_header}
+use Rattle.program.proofs.Faulted.{no_lines, no_header}
 use Rattle.program.proofs.FaultedRows.{no_row, no_end}
-use Rattle.program.proofs.LineTexts.{count_is, lines_are}
+use Rattle.program.proofs.LineTexts.{lines_are}
 use Rattle.program.proofs.Outcomes.{not_both, then_err}
 use Rattle.program.proofs.RowTexts.{rows_are}
 use Rattle.program.proofs.Texts.{header_is, read_is, read_back}
@@ -52,10 +52,7 @@ refused_table text (h ∷ fs) f six are low high e = elim (then_err (header_read
 
 faults : (text : List ℕ) (f : Refusal) → read text ≡ Err f → Faulty text f
 faults text f e = elim (then_err (lines_read text) table_read f e) [
-  | inl t ↦ elim (then_err (line_count text) (λ n. numbers 1 (lines n text)) f t) [
-    | inl u ↦ no_lines text f u
-    | inr u ↦ no_numbers text u.0 f (count_is 2 129 Length text u.0 u.1) u.2
-  ]
+  | inl t ↦ no_lines text f t
   | inr t ↦
       let c = lines_are 2 129 Length Field text t.0 t.1 in
       refused_table text t.0 f c.0 c.1 c.2 c.3 t.2

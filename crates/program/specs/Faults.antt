@@ -1,30 +1,15 @@
 -- What a refusal says of the text, in a reader's words: everything that is looked at before is right,
 -- and this is wrong.
-use Rattle.std.specs.Prelude.{◌≡◌, ℕ, ◌+◌, ◌*◌, ◌<◌, ◌≤◌, Bool, true, false, ◌&&◌, ◌||◌, List, [], ◌∷◌, ◌++◌, map, length, take, drop, ◌==◌, ◌≢◌, slice_index}
+use Rattle.std.specs.Prelude.{◌≡◌, ℕ, ◌+◌, ◌<◌, ◌≤◌, Bool, true, false, ◌&&◌, ◌||◌, List, [], ◌∷◌, ◌++◌, map, length, ◌==◌, ◌≢◌, slice_index}
 use Rattle.std.specs.List.{AllByRecursion}
-use Rattle.text.specs.Lines.{line_text}
 use Rattle.program.specs.declared.refusals.Refusal.{Refusal}
 use Rattle.program.specs.declared.refusals.Refusal.TheVariants.{Length, Field, Header, Order, Operand, NoTerm, NoProcess}
 use Rattle.program.specs.declared.rows.Row.{Row}
 use Rattle.program.specs.declared.rows.Counts.{Counts}
 use Rattle.program.specs.declared.rows.Instruction.{Instruction}
+use Rattle.program.specs.Fields.{WrongLength, WrongField}
 use Rattle.program.specs.Program.{Six, lines_text, header_fields, row_fields, instruction_fields, counts_fit, operands_fit, follows, rows_fit, is_term}
 use Rattle.program.specs.Reading.{named}
-
--- the text is as long as n lines, and so many are allowed
-abbrev pub Lines : List ℕ → ℕ → Type 0
-Lines text n = (length text ≡ 25 * n) × (2 ≤ n) × (n ≤ 129)
-
--- the lines before line i are numbers, and line i is not
-pub record WrongField (text : List ℕ) (i : ℕ) : Type 0 where
-  pub count : ℕ
-  pub long : Lines text count
-  pub before : List (List ℕ)
-  pub numbers : AllByRecursion Six before
-  pub are : take (25 * length before) text ≡ lines_text before
-  pub place : i ≡ length before + 1
-  pub there : i ≤ count
-  pub wrong : (f : List ℕ) → Six f → take 25 (drop (25 * length before) text) ≢ line_text f
 
 -- all lines are numbers, and the first is no header of a table with so many rows
 pub record WrongHeader (text : List ℕ) : Type 0 where
@@ -118,8 +103,8 @@ pub record WrongLast (text : List ℕ) (i : ℕ) : Type 0 where
   pub wrong : row.process < counts.processes
 
 abbrev pub Faulty : List ℕ → Refusal → Type 0
-Faulty text Length = (n : ℕ) → Lines text n → ⊥
-Faulty text (Field i) = WrongField text i
+Faulty text Length = WrongLength 2 129 text
+Faulty text (Field i) = WrongField 2 129 text i
 Faulty text Header = WrongHeader text
 Faulty text (Order i) = WrongOrder text i
 Faulty text (Operand i) = WrongOperand text i

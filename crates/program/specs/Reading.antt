@@ -39,12 +39,6 @@ abbrev pub lines_or : {E : Type 0} → ℕ → ℕ → E → (ℕ → E) → Lis
 lines_or low high e wrong text = then_do (count_or low high e text) (λ n. numbers_or wrong 1 (lines n text))
 
 -- the same for a table, which has from 2 to 129 lines
-abbrev pub line_count : List ℕ → Result ℕ Refusal
-line_count = count_or 2 129 Length
-
-abbrev pub numbers : ℕ → List (List ℕ) → Result (List (List ℕ)) Refusal
-numbers = numbers_or Field
-
 abbrev pub lines_read : List ℕ → Result (List (List ℕ)) Refusal
 lines_read = lines_or 2 129 Length Field
 

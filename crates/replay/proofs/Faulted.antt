@@ -10,6 +10,7 @@ use Rattle.program.specs.Program.{Program, within}
 use Rattle.program.proofs.LineTexts.{lines_are}
 use Rattle.program.proofs.Outcomes.{then_err}
 use Rattle.program.proofs.RowTexts.{six_are}
+use Rattle.program.proofs.WrongLines.{wrong_lines}
 use Rattle.worlds.specs.declared.places.Place.{Place}
 use Rattle.worlds.specs.declared.records.Record.{Record}
 use Rattle.worlds.specs.Worlds.{over, label_in, record_of}
@@ -18,12 +19,12 @@ use Rattle.runs.specs.Runs.{switches_of}
 use Rattle.runs.specs.Asked.{system}
 use Rattle.replay.specs.declared.faults.Fault.{Fault}
 use Rattle.replay.specs.declared.faults.Fault.TheVariants.{Length, Field, Number, Process, Seen, Bounds}
-use Rattle.replay.specs.Faults.{Spells, Line, numbers_of, start, led_by, IsBounded, CanFollow, StandsAt, Reached, Placed, Faulty}
+use Rattle.replay.specs.Bounded.{start, led_by, IsBounded}
+use Rattle.replay.specs.Faults.{Spells, Line, numbers_of, CanFollow, StandsAt, Reached, Placed, Faulty}
 use Rattle.replay.specs.Fields.{run_fields}
 use Rattle.replay.specs.Playing.{mark_number, record_fields, move_of, is_label, unoffered, line_fault, lines_read, lines_played, played}
 use Rattle.replay.proofs.Breaks.{Breaks, AtEnd, AtLine, breaks, run_more, switches_more}
 use Rattle.replay.proofs.Rights.{label_there}
-use Rattle.replay.proofs.Unread.{unread}
 
 -- a test failed, and its fault is told; or it passed, and what is told comes after it
 fails : (b : Bool) (o : Option Fault) (g f : Fault) → cond b o (Some g) ≡ Some f → ((b ≡ false) × (g ≡ f)) ⊎ ((b ≡ true) × (o ≡ Some f))
@@ -214,7 +215,7 @@ module _ {Config : Type 0} (m : Machine Config) (t : Program) (q : Question) whe
   -- whatever is refused
   pub faulted : (text : List ℕ) (fault : Fault) → played m t q text ≡ Err fault → Faulty m t q text fault
   faulted text fault e = elim (then_err (lines_read text) (lines_played m t q (start m t q) 1 0) fault e) [
-    | inl a ↦ unread m t q text fault a
+    | inl a ↦ wrong_lines 0 24 Length Field text (Faulty m t q text) (λ h. h) (λ i h. h) fault a
     | inr a ↦
         let h = lines_are 0 24 Length Field text a.0 a.1 in
         unplayed text a.0 fault (record { few = h.3; numbers = h.0; are = h.1 }) a.2

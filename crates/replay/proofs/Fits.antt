@@ -27,7 +27,7 @@ use Rattle.runs.specs.Runs.{IsRun, end_of}
 use Rattle.runs.specs.Asked.{system}
 use Rattle.runs.proofs.Works.{narrow}
 use Rattle.replay.specs.Playing.{mark_number, record_fields}
-use Rattle.replay.specs.Written.{run_fields}
+use Rattle.replay.specs.Fields.{run_fields}
 use Rattle.replay.proofs.Registers.{Bytes, AskedInBytes, asks_small, moved_small, beginning_small}
 
 -- the header's limits

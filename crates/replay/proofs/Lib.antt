@@ -2,7 +2,6 @@ pub mod Rights
 pub mod Plays
 pub mod Registers
 pub mod Fits
-pub mod Unread
 pub mod Breaks
 pub mod Faulted
 pub mod Says

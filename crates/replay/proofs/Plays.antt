@@ -15,7 +15,7 @@ use Rattle.replay.specs.declared.faults.Fault.{Fault}
 use Rattle.replay.specs.declared.faults.Fault.TheVariants.{Targets}
 use Rattle.replay.specs.declared.faults.Played.{Played}
 use Rattle.replay.specs.Playing.{mark_number, record_fields, move_of, line_fault, lines_played}
-use Rattle.replay.specs.Written.{run_fields}
+use Rattle.replay.specs.Fields.{run_fields}
 use Rattle.replay.proofs.Rights.{Right, right, unfaulted}
 
 module _ {Config : Type 0} (m : Machine Config) (t : Program) (q : Question) where

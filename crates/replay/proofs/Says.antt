@@ -6,7 +6,7 @@ use Rattle.memory.specs.declared.actions.Action.{Action}
 use Rattle.memory.specs.Machine.{Machine}
 use Rattle.memory.specs.Bytes.{SeesBytes}
 use Rattle.ceiling.specs.declared.moves.Move.{Move}
-use Rattle.ceiling.specs.Programs.{World, next, opening}
+use Rattle.ceiling.specs.Programs.{World, next}
 use Rattle.program.specs.Program.{Program, Six, kept, lines_text}
 use Rattle.program.specs.Reading.{then_do}
 use Rattle.program.proofs.LineTexts.{lines_are, lines_back}
@@ -19,8 +19,10 @@ use Rattle.runs.specs.Asked.{system}
 use Rattle.replay.specs.declared.faults.Fault.{Fault}
 use Rattle.replay.specs.declared.faults.Fault.TheVariants.{Length, Field}
 use Rattle.replay.specs.declared.faults.Played.{Played}
+use Rattle.replay.specs.Bounded.{start}
+use Rattle.replay.specs.Fields.{run_fields}
 use Rattle.replay.specs.Playing.{move_of, lines_read, lines_played, played}
-use Rattle.replay.specs.Written.{run_fields, Answers, IsWritten, AcceptedAs, Says}
+use Rattle.replay.specs.Written.{Answers, IsWritten, AcceptedAs, Says}
 use Rattle.replay.proofs.Plays.{Plays, plays, played_back}
 use Rattle.replay.proofs.Fits.{fits}
 use Rattle.replay.proofs.Faulted.{faulted}
@@ -42,11 +44,11 @@ module _ {Config : Type 0} (m : Machine Config) (t : Program) where
   module _ (q : Question) where
     -- the numbers of a run's lines
     abbrev pub fields : List Move → List (List ℕ)
-    fields r = run_fields m t (opening m (over t) q.shape) 1 r
+    fields r = run_fields m t (start m t q) 1 r
 
     -- what it has once it is accepted
     abbrev pub told : List Move → Played
-    told r = record { steps = length r; switches = switches_of (system m t) (opening m (over t) q.shape) r }
+    told r = record { steps = length r; switches = switches_of (system m t) (start m t q) r }
 
     -- Every number of a run's lines fits its field: the table is one that was read or none, and the memory keeps its laws.
     module _ (keeps : kept t ≡ true) (widest : ℕ) (bounded : (s : Config) (p : ℕ) (a : Action) → m.offer s p a ≤ widest)
@@ -60,7 +62,7 @@ module _ {Config : Type 0} (m : Machine Config) (t : Program) where
       -- the written form of a run that answers is read as the run's lines
       lines_read_back : (r : List Move) → Answers m t q r → lines_read (lines_text (fields r)) ≡ Ok (fields r)
       lines_read_back r a =
-          let w = opening m (over t) q.shape in
+          let w = start m t q in
           let moves = a.within.moves in
           let most = q.short in
           lines_back 0 24 Length Field (fields r) (six_of w 1 r (small_fields r a)) (omega arith) (omega (arith, length_fields w 1 r))
@@ -68,7 +70,7 @@ module _ {Config : Type 0} (m : Machine Config) (t : Program) where
       -- and accepted
       pub complete : (r : List Move) → Answers m t q r → played m t q (lines_text (fields r)) ≡ Ok (told r)
       complete r a =
-          let w = opening m (over t) q.shape in
+          let w = start m t q in
           let within = a.within in
           let run : Plays m t q w 1 0 r (told r) = record {
             run = within.run;
@@ -86,7 +88,7 @@ module _ {Config : Type 0} (m : Machine Config) (t : Program) where
       -- a text that is the written form of two such runs is that of one
       one_run : (text : List ℕ) (r s : List Move) → Answers m t q r → Answers m t q s → IsWritten m t q r text → IsWritten m t q s text → s ≡ r
       one_run text r s a b g h =
-          let w = opening m (over t) q.shape in
+          let w = start m t q in
           let first = ap lines_read g ∙ lines_read_back r a in
           let second = ap lines_read h ∙ lines_read_back s b in
           let same : fields s ≡ fields r = cc in
@@ -94,7 +96,7 @@ module _ {Config : Type 0} (m : Machine Config) (t : Program) where
 
       accepted : (text : List ℕ) (p : Played) → played m t q text ≡ Ok p → (r : List Move) × AcceptedAs m t q text p r
       accepted text p e =
-          let w = opening m (over t) q.shape in
+          let w = start m t q in
           let a = then_ok (lines_read text) (lines_played m t q w 1 0) p e in
           let fs = a.0 in
           let r = map move_of fs in

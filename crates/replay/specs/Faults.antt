@@ -1,40 +1,23 @@
 -- What a refusal says of a run's text, in a reader's words: everything that is looked at before is right, and this is
 -- wrong.
-use Rattle.std.specs.Prelude.{◌≡◌, ℕ, ◌+◌, ◌*◌, ◌<◌, ◌≤◌, ◌⊎◌, false, List, [], ◌∷◌, ◌++◌, length, Some, None, ◌≢◌}
+use Rattle.std.specs.Prelude.{◌≡◌, ℕ, ◌+◌, ◌<◌, ◌≤◌, ◌⊎◌, false, List, [], ◌∷◌, ◌++◌, length, Some, None, ◌≢◌}
 use Rattle.std.specs.List.{AllByRecursion}
-use Rattle.text.specs.Lines.{line_text}
 use Rattle.memory.specs.declared.actions.Action.{Action}
 use Rattle.memory.specs.Machine.{Machine}
 use Rattle.ceiling.specs.declared.moves.Move.{Move}
-use Rattle.ceiling.specs.Programs.{World, deed, offers, opening}
+use Rattle.ceiling.specs.Programs.{deed, offers}
+use Rattle.program.specs.Fields.{WrongLength, WrongField}
 use Rattle.program.specs.Program.{Program, Six, lines_text}
-use Rattle.worlds.specs.declared.places.Place.{Place}
 use Rattle.worlds.specs.declared.records.Record.{Record}
 use Rattle.worlds.specs.Worlds.{over, record_of}
 use Rattle.runs.specs.declared.questions.Question.{Question}
-use Rattle.runs.specs.Runs.{move, IsRun, switches_of, end_of}
-use Rattle.runs.specs.Listed.{Within}
+use Rattle.runs.specs.Runs.{move, IsRun, switches_of}
 use Rattle.runs.specs.Asked.{system, arrived}
 use Rattle.replay.specs.declared.faults.Fault.{Fault}
 use Rattle.replay.specs.declared.faults.Fault.TheVariants.{Length, Field, Number, Process, NoMove, Choice, Seen, Bounds, Targets}
+use Rattle.replay.specs.Bounded.{start, led_by, IsBounded}
 use Rattle.replay.specs.Playing.{mark_number, record_fields}
 use Rattle.replay.specs.Fields.{run_fields}
-
--- the text is as long as n lines, and so many are allowed
-abbrev pub Lines : List ℕ → ℕ → Type 0
-Lines text n = (length text ≡ 25 * n) × (n ≤ 24)
-
--- the lines before line i are numbers, and the 25 bytes of line i are not
-pub record WrongField (text : List ℕ) (i : ℕ) : Type 0 where
-  pub long : (n : ℕ) × Lines text n
-  pub before : List (List ℕ)
-  pub line : List ℕ
-  pub rest : List ℕ
-  pub are : text ≡ lines_text before ++ (line ++ rest)
-  pub numbers : AllByRecursion Six before
-  pub place : i ≡ length before + 1
-  pub there : length line ≡ 25
-  pub wrong : (f : List ℕ) → Six f → line ≢ line_text f
 
 -- the text is at most 24 lines, and these are their numbers
 pub record Spells (text : List ℕ) (fs : List (List ℕ)) : Type 0 where
@@ -59,34 +42,23 @@ abbrev pub move_in : Line → Move
 move_in x = move x.process x.choice
 
 module _ {Config : Type 0} (m : Machine Config) (t : Program) (q : Question) where
-  -- where the runs begin, and where one of them leads
-  abbrev pub start : World Config Place
-  start = opening m (over t) q.shape
-
-  abbrev pub led_by : List Move → World Config Place
-  led_by r = end_of (system m t) start r
-
-  -- a run within both bounds
-  abbrev pub IsBounded : List Move → Type 0
-  IsBounded r = Within (system m t) start q.steps q.switches r
-
   -- after the run r the move k can be made
   abbrev pub CanFollow : List Move → Move → Type 0
-  CanFollow r k = IsRun (system m t) start (r ++ (k ∷ []))
+  CanFollow r k = IsRun (system m t) (start m t q) (r ++ (k ∷ []))
 
   -- the step that k is then
   abbrev pub step_after : List Move → Move → Record
-  step_after r k = record_of m t (led_by r) k
+  step_after r k = record_of m t (led_by m t q r) k
 
   -- the table has process p, and after the run r it stands at label l
   abbrev pub StandsAt : List Move → ℕ → ℕ → Type 0
-  StandsAt r p l = (1 ≤ p) × (p ≤ t.counts.processes) × (((led_by r).places p).label ≡ l)
+  StandsAt r p l = (1 ≤ p) × (p ≤ t.counts.processes) × (((led_by m t q r).places p).label ≡ l)
 
   -- All lines are numbers. Those before line i are the lines of the run r, which is within both bounds, and line i is x.
   pub record Reached (text : List ℕ) (i : ℕ) (r : List Move) (x : Line) : Type 0 where
     pub rest : List (List ℕ)
-    pub spells : Spells text (run_fields m t start 1 r ++ (numbers_of x ∷ rest))
-    pub bounded : IsBounded r
+    pub spells : Spells text (run_fields m t (start m t q) 1 r ++ (numbers_of x ∷ rest))
+    pub bounded : IsBounded m t q r
     pub place : i ≡ length r + 1
 
   -- and the line's number is right, and its process stands at its label
@@ -98,7 +70,7 @@ module _ {Config : Type 0} (m : Machine Config) (t : Program) (q : Question) whe
   -- and its choice is not below what is offered to the process there, so that its move cannot be made
   pub record Unoffered (text : List ℕ) (i : ℕ) (r : List Move) (x : Line) : Type 0 where
     pub placed : Placed text i r x
-    pub beyond : offers m (over t) (led_by r) x.process ≤ x.choice
+    pub beyond : offers m (over t) (led_by m t q r) x.process ≤ x.choice
 
   -- line i is reached, and its number is another one
   pub record WrongNumber (text : List ℕ) (i : ℕ) : Type 0 where
@@ -120,15 +92,15 @@ module _ {Config : Type 0} (m : Machine Config) (t : Program) (q : Question) whe
     pub run : List Move
     pub line : Line
     pub unoffered : Unoffered text i run line
-    pub nothing : deed m (over t) (led_by run) line.process ≡ None
+    pub nothing : deed m (over t) (led_by m t q run) line.process ≡ None
 
   -- its move is not offered: for what the process does there are so many choices
   pub record WrongChoice (text : List ℕ) (i offered : ℕ) : Type 0 where
     pub run : List Move
     pub line : Line
     pub unoffered : Unoffered text i run line
-    pub does : (a : Action) × (deed m (over t) (led_by run) line.process ≡ Some a)
-    pub told : offered ≡ offers m (over t) (led_by run) line.process
+    pub does : (a : Action) × (deed m (over t) (led_by m t q run) line.process ≡ Some a)
+    pub told : offered ≡ offers m (over t) (led_by m t q run) line.process
 
   -- its move can be made, and the line has another value or another mark than the step
   pub record WrongSeen (text : List ℕ) (i : ℕ) : Type 0 where
@@ -150,19 +122,19 @@ module _ {Config : Type 0} (m : Machine Config) (t : Program) (q : Question) whe
     pub right : numbers_of line ≡ record_fields i (step_after run move)
     pub wrong :
         (q.steps < length (run ++ (move ∷ [])))
-        ⊎ (q.switches < switches_of (system m t) start (run ++ (move ∷ [])))
+        ⊎ (q.switches < switches_of (system m t) (start m t q) (run ++ (move ∷ [])))
 
   -- all n lines are those of a run within both bounds, and it does not reach the targets
   pub record WrongTargets (text : List ℕ) (n : ℕ) : Type 0 where
     pub run : List Move
-    pub spells : Spells text (run_fields m t start 1 run)
-    pub bounded : IsBounded run
+    pub spells : Spells text (run_fields m t (start m t q) 1 run)
+    pub bounded : IsBounded m t q run
     pub place : n ≡ length run
-    pub wrong : arrived q (led_by run) ≡ false
+    pub wrong : arrived q (led_by m t q run) ≡ false
 
   abbrev pub Faulty : List ℕ → Fault → Type 0
-  Faulty text Length = (n : ℕ) → Lines text n → ⊥
-  Faulty text (Field i) = WrongField text i
+  Faulty text Length = WrongLength 0 24 text
+  Faulty text (Field i) = WrongField 0 24 text i
   Faulty text (Number i) = WrongNumber text i
   Faulty text (Process i) = WrongProcess text i
   Faulty text (NoMove i) = WrongMove text i

@@ -1,5 +1,6 @@
 pub mod Playing
 pub mod Fields
+pub mod Bounded
 pub mod Faults
 pub mod Written
 pub mod Notices

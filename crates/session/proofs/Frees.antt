@@ -1,6 +1,5 @@
 -- The ceiling of release-acquire memory loses nothing, whatever calls there were.
 use Rattle.std.proofs.Common.{◌≡◌, ℕ, ◌↔◌, true, List, [], Some, refl, sym, ap, ◌∙◌, subst}
-use Rattle.memory.specs.Bytes.{SeesBytes}
 use Rattle.memory.specs.Bytes as bytes
 use Rattle.memory.specs.Fenced.{leads_below, lowered_takes}
 use Rattle.memory.specs.ReleaseAcquire.{Config, machine}

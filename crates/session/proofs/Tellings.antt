@@ -27,7 +27,7 @@ use Rattle.runs.proofs.Judged.{judges}
 use Rattle.runs.proofs.Looks.{look_rises}
 use Rattle.replay.specs.declared.faults.Played.{Played}
 use Rattle.replay.specs.Playing.{mark_number, played, record_fields}
-use Rattle.replay.specs.Written.{run_fields}
+use Rattle.replay.specs.Fields.{run_fields}
 use Rattle.replay.proofs.Says.{says}
 use Rattle.session.specs.declared.refusals.Refusal.{Refusal}
 use Rattle.session.specs.declared.refusals.Refusal.TheVariants as refusal

@@ -22,7 +22,8 @@ use Rattle.runs.specs.Runs.{switches_of}
 use Rattle.runs.specs.Searches.{HasList, Tells}
 use Rattle.replay.specs.declared.faults.Fault.{Fault}
 use Rattle.replay.specs.declared.faults.Played.{Played}
-use Rattle.replay.specs.Written.{run_fields, Answers, Says}
+use Rattle.replay.specs.Fields.{run_fields}
+use Rattle.replay.specs.Written.{Answers, Says}
 use Rattle.session.specs.declared.refusals.Refusal.{Refusal}
 use Rattle.session.specs.declared.refusals.Refusal.TheVariants.{WorkUnasked, Effort, ReplayUnasked, ReportUnasked, Short}
 use Rattle.session.specs.declared.standings.Stage.{Stage}

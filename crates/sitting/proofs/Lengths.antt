@@ -18,7 +18,7 @@ use Rattle.runs.specs.Runs.{switches_of}
 use Rattle.runs.specs.Searches.{shown, Tells}
 use Rattle.runs.proofs.Works.{tells_by}
 use Rattle.replay.specs.Playing.{record_fields}
-use Rattle.replay.specs.Written.{run_fields}
+use Rattle.replay.specs.Fields.{run_fields}
 use Rattle.session.specs.Answers.{text_after}
 use Rattle.session.specs.Contents.{if_found}
 use Rattle.session.specs.Reports.{verdict_fields}

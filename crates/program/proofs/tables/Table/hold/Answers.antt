@@ -1,4 +1,4 @@
-use Rattle.std.proofs.Common.{◌≡◌, ◌&&◌, ◌∙◌, arith}
+use Rattle.std.proofs.Common.{◌&&◌, ◌∙◌, arith}
 use Rattle.std.proofs.lemmas.Bool.{or_right}
 use Rattle.program.specs.Program.{proper, counts_none, is_nothing}
 use Rattle.program.proofs.Blocks.{tested}

@@ -1,6 +1,6 @@
 -- After i turns the first i lines of the text stand over the front of the buffer (Pages), and a turn writes one more; the rest of
 -- the buffer is as it was.
-use Rattle.std.proofs.Common.{◌≡◌, ℕ, ◌+◌, ◌*◌, false, length, refl, eqb, sym, ap, ◌∙◌, arith}
+use Rattle.std.proofs.Common.{◌≡◌, ◌+◌, ◌*◌, false, length, refl, eqb, sym, ap, arith}
 use Rattle.program.specs.declared.tables.Table.{Table}
 use Rattle.text.specs.Lines.{line_text}
 use Rattle.program.specs.Program.{is_nothing, header_fields}
