@@ -1,6 +1,6 @@
 -- What is printed for an input goes by its first 3,856 bytes.
-use Rattle.std.proofs.Common.{◌≡◌, ℕ, zero, suc, ◌+◌, ◌*◌, ◌/◌, ◌%◌, ◌<◌, ◌≤◌, Bool, true, false, cond, ◌&&◌, eqb, leb, List, [], ◌∷◌, length, take, drop, Some, None, Ok, Err, Option, Result, sym, refl, ap, ◌∙◌, subst, inl, inr, arith}
-use Rattle.std.proofs.lemmas.Bool.{cases_lt, and_parts, cond-false, eqb-true, false_from_ne_true, leb-true}
+use Rattle.std.proofs.Common.{◌≡◌, ℕ, zero, suc, ◌+◌, ◌<◌, ◌≤◌, Bool, true, false, cond, ◌&&◌, eqb, List, [], ◌∷◌, length, take, drop, Some, None, Ok, Err, Option, Result, sym, refl, ap, ◌∙◌, subst, inl, inr, arith}
+use Rattle.std.proofs.lemmas.Bool.{cases_lt}
 use Rattle.std.proofs.lemmas.List.{drop-take, length-drop, length-take, take_all, take-take}
 use Rattle.memory.specs.declared.kinds.Kind.{Kind}
 use Rattle.memory.specs.declared.kinds.Kind.TheVariants.{Sequential, ReleaseAcquire}
@@ -10,8 +10,9 @@ use Rattle.memory.specs.ReleaseAcquire as release_acquire
 use Rattle.memory.specs.Sequential as sequential
 use Rattle.program.specs.declared.refusals.Refusal.{Refusal}
 use Rattle.program.specs.declared.refusals.Refusal.TheVariants as of_tables
-use Rattle.program.specs.Program.{Program, within}
-use Rattle.program.specs.Reading.{then_do, lines, count_or, numbers_or, lines_or, table_read, read}
+use Rattle.program.specs.Program.{Program}
+use Rattle.program.specs.Reading.{then_do, read}
+use Rattle.program.proofs.TooLong.{long_lines, long_table}
 use Rattle.replay.specs.declared.faults.Fault.TheVariants as of_runs
 use Rattle.replay.specs.declared.faults.Played.{Played}
 use Rattle.replay.specs.declared.faults.Fault.{Fault}
@@ -24,30 +25,11 @@ use Rattle.runs.specs.Lines.{wish_of}
 use Rattle.player.specs.Answers.{Answered, Asked, Read, Wished, end_words, played_over, told}
 use Rattle.player.specs.Parts.{after_blank, before_blank}
 
--- a text that is longer than the most lines that are allowed is refused for its length
-module _ {E : Type 0} (low high : ℕ) (e : E) where
-  not_counted : (text : List ℕ) → 25 * high < length text → count_or low high e text ≡ Err e
-  not_counted text long =
-      let fits = eqb (length text % 25) 0 && within low high (length text / 25) in
-      cond-false fits (Ok (length text / 25)) (Err e) (false_from_ne_true fits (λ (t : fits ≡ true).
-      let u = and_parts (eqb (length text % 25) 0) (within low high (length text / 25)) t in
-      let v = and_parts (leb low (length text / 25)) (leb (length text / 25) high) u.1 in
-      omega (arith, eqb-true (length text % 25) 0 u.0, leb-true (length text / 25) high v.1)))
-
-  not_read : (wrong : ℕ → E) (text : List ℕ) → 25 * high < length text → lines_or low high e wrong text ≡ Err e
-  not_read wrong text long =
-      ap (λ (r : Result ℕ E). then_do r (λ (n : ℕ). numbers_or wrong 1 (lines n text))) (not_counted text long)
-
-long_table : (text : List ℕ) → 3225 < length text → read text ≡ Err of_tables.Length
-long_table text long =
-    ap (λ (r : Result (List (List ℕ)) Refusal). then_do r table_read)
-    (not_read 2 129 of_tables.Length of_tables.Field text (omega arith))
-
 -- whatever would be done with a run's lines
 long_run : (go : List (List ℕ) → Result Played Fault) (run : List ℕ) → 600 < length run
     → then_do (lines_read run) go ≡ Err of_runs.Length
 long_run go run long =
-    ap (λ (r : Result (List (List ℕ)) Fault). then_do r go) (not_read 0 24 of_runs.Length of_runs.Field run (omega arith))
+    ap (λ (r : Result (List (List ℕ)) Fault). then_do r go) (long_lines 0 24 of_runs.Length of_runs.Field run (omega arith))
 
 long_played : {Config : Type 0} (m : Machine Config) (t : Program) (q : Question) (run : List ℕ) → 600 < length run
     → played m t q run ≡ Err of_runs.Length
