@@ -3,8 +3,13 @@
 #![tactic(auto)]
 
 ghost use Rattle.std.specs.Prelude.{◌≡◌, take, IfOk, IfSome, MatchOption, string_bytes};
+ghost use Rattle.std.specs.Io.KnownBytes.{Consumes};
 ghost use Rattle.intake.specs.Numbers.{WordOr};
+ghost use Rattle.intake.specs.Serving.{TakenAtMost};
 
+mod filling;
+
+use filling::fill;
 use std::alloc::Global;
 use std::io;
 use std::io::Read;
@@ -18,11 +23,17 @@ pub fn read_all<R: Read>(heap: Global, reader: &mut R) -> io::Result<Vec<u8>>
     Ok(bytes)
 }
 
-// The first bytes that a reader has left, at most so many.
-pub fn read_most<R: Read>(heap: Global, reader: &mut R, most: u64) -> io::Result<Vec<u8>>
-    ensures { IfOk result (λ v. IfSome (R.remaining reader.old) (λ bytes. v.items ≡ take most bytes)) }
+// The first bytes that a reader has left, at most so many. These are taken from it, and no more; an error loses what was
+// read before it.
+pub fn read_most<R: Read>(heap: Global, reader: &mut R, most: usize) -> io::Result<Vec<u8>>
+    ensures all { IfOk result (λ v. IfSome (R.remaining reader.old) (λ bytes. v.items ≡ take most bytes)) }
+    ensures taken { IfOk result (λ v. Consumes (R.remaining reader.old) (R.remaining reader.new) v.items) }
+    ensures left { TakenAtMost most (R.remaining reader.old) (R.remaining reader.new) }
 {
-    read_all(heap, &mut reader.take(most))
+    let mut bytes = vec![in heap; 0; most]?;
+    let filled = fill(reader, bytes.as_mut_slice())?;
+    bytes.truncate(filled);
+    Ok(bytes)
 }
 
 // The number that a word writes, or another one where there is no word or it writes none.
@@ -38,6 +49,7 @@ pub fn number_or(word: Option<String>, other: u32) -> u32
 #[cfg(test)]
 mod tests {
     use super::*;
+    use std::io::ErrorKind;
     use std::test::Fail;
 
     #[test]
@@ -47,6 +59,50 @@ mod tests {
         assert!(rt; bytes.as_slice() == b"two\nlines\n".as_slice());
         let more = read_all(rt.alloc(), &mut reader)?;
         assert!(rt; more.is_empty());
+        Ok(())
+    }
+
+    // Bytes that come three at a time, each time after an interruption.
+    #[derive(Drop)]
+    struct Trickle<'a> {
+        rest: &'a [u8],
+        is_ready: bool,
+    }
+
+    impl Read for Trickle<'_> {
+        fn read(&mut self, buffer: &mut [u8]) -> io::Result<usize> {
+            self.is_ready = !self.is_ready;
+            if self.is_ready {
+                return Err(ErrorKind::Interrupted.into());
+            }
+            let room = buffer.len().min(3);
+            self.rest.read(&mut buffer[..room])
+        }
+    }
+
+    #[test]
+    fn no_more_is_taken_than_is_read(rt: HostRuntime) -> Result<(), Fail> {
+        let mut reader: &[u8] = b"two\nlines\n";
+        let bytes = read_most(rt.alloc(), &mut reader, 5)?;
+        assert!(rt; bytes.as_slice() == b"two\nl".as_slice());
+        assert!(rt; reader == b"ines\n".as_slice());
+        let rest = read_most(rt.alloc(), &mut reader, 6)?;
+        assert!(rt; rest.as_slice() == b"ines\n".as_slice());
+        assert!(rt; reader.is_empty());
+        Ok(())
+    }
+
+    #[test]
+    fn reading_goes_on_after_an_interruption(rt: HostRuntime) -> Result<(), Fail> {
+        let mut reader = Trickle {
+            rest: b"two\nlines\n",
+            is_ready: false,
+        };
+        let bytes = read_most(rt.alloc(), &mut reader, 8)?;
+        assert!(rt; bytes.as_slice() == b"two\nline".as_slice());
+        assert!(rt; reader.rest == b"s\n".as_slice());
+        let rest = read_most(rt.alloc(), &mut reader, 8)?;
+        assert!(rt; rest.as_slice() == b"s\n".as_slice());
         Ok(())
     }
 

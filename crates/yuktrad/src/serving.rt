@@ -1,7 +1,7 @@
 // What the program does between a reader and a writer.
 
 ghost use Rattle.std.specs.Prelude.{◌≡◌};
-ghost use Rattle.intake.specs.Serving.{Serves};
+ghost use Rattle.intake.specs.Serving.{Serves, TakenAtMost};
 ghost use Rattle.yuktrad.specs.Printing.{printed};
 
 use intake::read_most;
@@ -11,14 +11,15 @@ use std::io;
 use std::io::{Read, Write};
 
 // The most bytes that are looked at: one more than a sitting takes, so that a longer input is seen to be too long.
-const MOST: u64 = 4001;
+const MOST: usize = 4001;
 
 // As many bytes as a sitting writes at most.
 const ROOM: usize = 625;
 
-// Does a sitting on what a reader gives, and writes what it writes.
+// Does a sitting on what a reader gives, and writes what it writes. No more is taken than is looked at.
 pub fn serve<R: Read, W: Write>(heap: Global, input: &mut R, output: &mut W) -> io::Result<()>
-    ensures { Serves (λ given text. text ≡ printed given) (R.remaining input.old) (W.contents output.old) (W.contents output.new) result }
+    ensures serves { Serves (λ given text. text ≡ printed given) (R.remaining input.old) (W.contents output.old) (W.contents output.new) result }
+    ensures left { TakenAtMost 4001 (R.remaining input.old) (R.remaining input.new) }
 {
     let given = read_most(heap, input, MOST)?;
     let mut out = [0; ROOM];

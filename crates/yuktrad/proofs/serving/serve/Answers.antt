@@ -11,12 +11,12 @@ unreachable-requires g c =
     never_refused c.as_slice.result.now (replicate 625 0) c.sitting.new.out c.in-Err.field-0 refl
     (ap (λ r. (r, c.sitting.new.out)) (sym c.in-Err.is) ∙ c.sitting.ensures.outcome)
 
-pub returns : goal.returns
-returns g c =
+pub returns-clause-serves : goal.returns-clause-serves
+returns-clause-serves g c =
     let out = c.sitting.new.out in
     let n = c.in-Ok.written in
     let sat : (Ok n, out) ≡ sat_in c.in_ok-given.given.items (replicate 625 0) =
     ap (λ r. (r, out)) (sym c.in-Ok.is) ∙ c.sitting.ensures.outcome
     ∙ ap (λ xs. sat_in xs (replicate 625 0)) c.as_slice.ensures.value in
     served (take 4001) (λ given t. t ≡ printed given) (λ given t h. h ∙ printed_alike given) _ _ _ c.write_all.result c.in_ok-given.given.items (take n out)
-    c.in_ok-given.ensures (ap written sat) c.write_all.ensures.bytes
+    c.in_ok-given.ensures.all (ap written sat) c.write_all.ensures.bytes
