@@ -1,4 +1,4 @@
-// What a program is given: its standard input, and a number among its arguments.
+// What a program is given, its standard input and a number among its arguments, and the text that it writes.
 
 #![tactic(auto)]
 
@@ -8,11 +8,13 @@ ghost use Rattle.intake.specs.Numbers.{WordOr};
 ghost use Rattle.intake.specs.Serving.{TakenAtMost};
 
 mod filling;
+mod writing;
 
 use filling::fill;
 use std::alloc::Global;
 use std::io;
 use std::io::Read;
+pub use writing::write_text;
 
 // All that a reader has left.
 pub fn read_all<R: Read>(heap: Global, reader: &mut R) -> io::Result<Vec<u8>>
@@ -49,7 +51,7 @@ pub fn number_or(word: Option<String>, other: u32) -> u32
 #[cfg(test)]
 mod tests {
     use super::*;
-    use std::io::ErrorKind;
+    use std::io::{ErrorKind, Write};
     use std::test::Fail;
 
     #[test]
@@ -103,6 +105,47 @@ mod tests {
         assert!(rt; reader.rest == b"s\n".as_slice());
         let rest = read_most(rt.alloc(), &mut reader, 8)?;
         assert!(rt; rest.as_slice() == b"s\n".as_slice());
+        Ok(())
+    }
+
+    // Takes two bytes at a time, each time after an interruption, and no more than it has room for.
+    #[derive(Drop)]
+    struct Narrow {
+        bytes: Vec<u8>,
+        room: usize,
+        is_ready: bool,
+    }
+
+    impl Write for Narrow {
+        fn write(&mut self, buffer: &[u8]) -> io::Result<usize> {
+            self.is_ready = !self.is_ready;
+            if self.is_ready {
+                return Err(ErrorKind::Interrupted.into());
+            }
+            let taken = buffer.len().min(2).min(self.room);
+            self.bytes.extend_from_slice(&buffer[..taken])?;
+            self.room -= taken;
+            Ok(taken)
+        }
+
+        fn flush(&mut self) -> io::Result<()> {
+            Ok(())
+        }
+    }
+
+    #[test]
+    fn a_text_is_written_piece_by_piece(rt: HostRuntime) -> Result<(), Fail> {
+        let mut writer = Narrow {
+            bytes: Vec::new(rt.alloc()),
+            room: 8,
+            is_ready: false,
+        };
+        write_text(&mut writer, b"lines")?;
+        assert!(rt; writer.bytes.as_slice() == b"lines".as_slice());
+        let more = write_text(&mut writer, b"more");
+        assert!(rt; more.is_err_and(|error| error.kind() == ErrorKind::WriteZero));
+        assert!(rt; writer.bytes.as_slice() == b"linesmor".as_slice());
+        write_text(&mut writer, b"")?;
         Ok(())
     }
 

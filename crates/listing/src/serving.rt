@@ -4,7 +4,7 @@ ghost use Rattle.program.specs.Reading.{read};
 ghost use Rattle.listing.specs.Words.{answered};
 
 use super::answering::answer;
-use intake::read_most;
+use intake::{read_most, write_text};
 use std::alloc::Global;
 use std::io;
 use std::io::{Read, Write};
@@ -21,5 +21,5 @@ pub fn serve<R: Read, W: Write>(heap: Global, input: &mut R, output: &mut W) -> 
 {
     let given = read_most(heap, input, MOST)?;
     let text = answer(heap, given.as_slice())?;
-    output.write_all(text.as_bytes())
+    write_text(output, text.as_bytes())
 }

@@ -4,7 +4,7 @@ ghost use Rattle.intake.specs.Serving.{Serves, TakenAtMost};
 ghost use Rattle.player.specs.Answers.{Answered};
 
 use super::answering::answer;
-use intake::read_most;
+use intake::{read_most, write_text};
 use std::alloc::Global;
 use std::io;
 use std::io::{Read, Write};
@@ -20,5 +20,5 @@ pub fn serve<R: Read, W: Write>(heap: Global, input: &mut R, output: &mut W) -> 
 {
     let given = read_most(heap, input, MOST)?;
     let told = answer(heap, given.as_slice())?;
-    output.write_all(told.as_bytes())
+    write_text(output, told.as_bytes())
 }

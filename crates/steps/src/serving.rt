@@ -3,7 +3,7 @@ ghost use Rattle.intake.specs.Serving.{Serves};
 ghost use Rattle.steps.specs.Answers.{answered};
 
 use super::answering::answer;
-use intake::read_all;
+use intake::{read_all, write_text};
 use std::alloc::Global;
 use std::io;
 use std::io::{Read, Write};
@@ -14,5 +14,5 @@ pub fn serve<R: Read, W: Write>(heap: Global, input: &mut R, output: &mut W) -> 
 {
     let given = read_all(heap, input)?;
     let text = answer(heap, given.as_slice())?;
-    output.write_all(text.as_bytes())
+    write_text(output, text.as_bytes())
 }

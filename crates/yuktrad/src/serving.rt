@@ -4,7 +4,7 @@ ghost use Rattle.std.specs.Prelude.{◌≡◌};
 ghost use Rattle.intake.specs.Serving.{Serves, TakenAtMost};
 ghost use Rattle.yuktrad.specs.Printing.{printed};
 
-use intake::read_most;
+use intake::{read_most, write_text};
 use sitting::sitting;
 use std::alloc::Global;
 use std::io;
@@ -24,7 +24,7 @@ pub fn serve<R: Read, W: Write>(heap: Global, input: &mut R, output: &mut W) -> 
     let given = read_most(heap, input, MOST)?;
     let mut out = [0; ROOM];
     match sitting(given.as_slice(), &mut out) {
-        Ok(written) => output.write_all(&out[..written]),
+        Ok(written) => write_text(output, &out[..written]),
         Err(_) => unreachable(),
     }
 }
