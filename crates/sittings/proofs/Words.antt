@@ -1,8 +1,6 @@
 -- What is printed for a batch, in a reader's words.
-use Rattle.std.proofs.Common.{◌≡◌, ℕ, zero, suc, ◌+◌, ◌<◌, ◌≤◌, List, [], ◌∷◌, ◌++◌, length, Some, None, Option, Result, IfSome, refl, sym, ap, ◌∙◌, subst, arith, append_assoc}
-use Rattle.std.proofs.lemmas.Result.{on_ok_weaker}
+use Rattle.std.proofs.Common.{◌≡◌, ℕ, zero, suc, ◌+◌, ◌<◌, ◌≤◌, List, [], ◌∷◌, ◌++◌, length, Some, None, Ok, Err, inl, inr, Option, Result, refl, sym, ap, ◌∙◌, subst, arith, append_assoc}
 use Rattle.std.specs.List.{flat_map}
-use Rattle.std.specs.Io.KnownBytes.{Appends}
 use Rattle.intake.specs.Serving.{Serves}
 use Rattle.sittings.specs.Cases.{Begins, First, case_of}
 use Rattle.sittings.specs.Batches.{Answers, Holds, batch_text, case_text, ending, text_by, texts}
@@ -53,9 +51,8 @@ answers batch =
 -- so what serves the one serves the other
 pub in_words : {E : Type 0} (given old new : Option (List ℕ)) (r : Result (Unit {0}) E)
     → Serves (λ given text. text ≡ batch_text given) given old new r → Serves Answers given old new r
-in_words given old new r h = on_ok_weaker r (known given) h
-  where
-    known : (given : Option (List ℕ)) → IfSome given (λ bytes. (text : List ℕ) × (text ≡ batch_text bytes) × Appends old new text)
-        → IfSome given (λ bytes. (text : List ℕ) × Answers bytes text × Appends old new text)
-    known (Some bytes) s = (s.0, subst (Answers bytes) (sym s.1) (answers bytes), s.2)
-    known None s = tt
+in_words (Some bytes) old new (Ok u) s = (s.0, subst (Answers bytes) (sym s.1) (answers bytes), s.2)
+in_words None old new (Ok u) s = tt
+in_words given old new (Err e) (inl kept) = inl kept
+in_words (Some bytes) old new (Err e) (inr s) = inr (s.0, subst (Answers bytes) (sym s.1) (answers bytes), s.2)
+in_words None old new (Err e) (inr s) = inr tt

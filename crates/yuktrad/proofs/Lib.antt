@@ -1,2 +1,1 @@
-pub mod Sat
 pub mod Most

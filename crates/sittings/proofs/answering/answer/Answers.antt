@@ -1,6 +1,6 @@
-use Rattle.std.proofs.Common.{◌≡◌, ℕ, ◌≤◌, List, OnOk, replicate, take, subst, ap, ◌∙◌, arith}
+use Rattle.std.proofs.Common.{◌≡◌, ℕ, ◌≤◌, List, replicate, take, subst, ap, ◌∙◌, arith}
 use Rattle.std.proofs.lemmas.List.{take-replicate}
-use Rattle.std.specs.Io.KnownBytes.{Appends}
+use Rattle.intake.specs.Serving.{Writes}
 use Rattle.sitting.specs.Outputs.{sat_in}
 use Rattle.sittings.specs.Batches.{outcome_text}
 use Rattle.sittings.proofs.Rooms.{cut_room}
@@ -16,5 +16,5 @@ returns g c =
     ap (λ (l : List ℕ). outcome_text (sat_in input l)) (take-replicate n 625 0 low)
     ∙ ap (λ (k : ℕ). outcome_text (sat_in input (replicate k 0))) c.min.ensures
     ∙ cut_room input room in
-    subst (λ (l : List ℕ). OnOk c.sit.result (Appends (g.W.Write.contents c.args.output.now) (g.W.Write.contents c.sit.new.output) l)) text
+    subst (λ (l : List ℕ). Writes (g.W.Write.contents c.args.output.now) (g.W.Write.contents c.sit.new.output) c.sit.result l) text
     c.sit.ensures

@@ -1,27 +1,43 @@
-use Rattle.std.proofs.Common.{◌≡◌, ℕ, List, ◌++◌, Ok, Option, Result, codes, decimal, take, sym, ap, subst, ◌∙◌, append_assoc}
-use Rattle.std.proofs.lemmas.Result.{on_ok_weaker}
-use Rattle.std.specs.Io.KnownBytes.{Appends}
-use Rattle.std.proofs.KnownBytes.{Appends-trans}
+use Rattle.std.proofs.Common.{◌≡◌, ◌++◌, List, ℕ, Ok, Result, IsErr, codes, decimal, take, sym, ap, subst, ◌∙◌, append_assoc, rules}
 use Rattle.session.specs.declared.refusals.Refusal.{Refusal}
+use Rattle.intake.specs.Serving.{AppendsFront, Writes}
+use Rattle.intake.proofs.Serving.{front_of_first, writes_after}
 use Rattle.sitting.specs.Outputs.{sat_in}
 use Rattle.sittings.specs.Batches.{outcome_text}
+use Rattle.sittings.proofs.Turns.{stopped, unwritten}
 use Rattle.sittings.proofs.answering.sit.Goals as goal
 
--- the number's line and then the bytes
-both : (old now new : Option (List ℕ)) (n : ℕ) (out : List ℕ) (x : Result ℕ Refusal × List ℕ) → (Ok n, out) ≡ x
-    → Appends old now (decimal n ++ codes "\n") → Appends now new (take n out) → Appends old new (outcome_text x)
-both old now new n out x is line bytes =
-    let all = Appends-trans old now new (decimal n ++ codes "\n") (take n out) line bytes in
-    let text : (decimal n ++ codes "\n") ++ take n out ≡ outcome_text x =
-    append_assoc (decimal n) (codes "\n") (take n out) ∙ ap outcome_text is in
-    subst (Appends old new) text all
+pub returns-in_err-line-in-Ok : goal.returns-in_err-line-in-Ok
+returns-in_err-line-in-Ok g c =
+    let failed : IsErr c.from_residual.result = search rules in
+    unwritten (g.W.Write.contents c.args.output.now) c.from_residual.result (outcome_text (sat_in c.args.input.now c.args.buffer.now)) failed
 
-pub returns-in_ok-writeln-in-Ok : goal.returns-in_ok-writeln-in-Ok
-returns-in_ok-writeln-in-Ok g c =
+-- the line of the number, and then the bytes
+module _ (n : ℕ) (out line : List ℕ) (x : Result ℕ Refusal × List ℕ) (is : (Ok n, out) ≡ x) (first : line ≡ decimal n ++ codes "\n") where
+  whole : line ++ take n out ≡ outcome_text x
+  whole = ap (λ (l : List ℕ). l ++ take n out) first ∙ append_assoc (decimal n) (codes "\n") (take n out) ∙ ap outcome_text is
+
+pub returns-in_err-write_text-in-Ok : goal.returns-in_err-write_text-in-Ok
+returns-in_err-write_text-in-Ok g c =
+    let old = g.W.Write.contents c.args.output.now in
+    let now = g.W.Write.contents c.write_text.new.writer in
     let out = c.sitting.new.out in
-    let is : (Ok c.in-Ok.written, out) ≡ sat_in c.args.input.now c.args.buffer.now =
-    ap (λ (r : Result ℕ Refusal). (r, out)) (sym c.in-Ok.is) ∙ c.sitting.ensures.outcome in
-    on_ok_weaker c.write_all.result
-    (both (g.W.Write.contents c.args.output.now) (g.W.Write.contents c.writeln.new.self) (g.W.Write.contents c.write_all.new.self)
-    c.in-Ok.written out (sat_in c.args.input.now c.args.buffer.now) is c.in_ok-writeln-in-Ok.ensures.bytes)
-    c.write_all.ensures.bytes
+    let line = c.as_bytes.result.now in
+    let x = sat_in c.args.input.now c.args.buffer.now in
+    let text = whole c.in-Ok.written out line x (ap (λ r. (r, out)) (sym c.in-Ok.is) ∙ c.sitting.ensures.outcome)
+    (c.as_bytes.ensures.value ∙ c.in_ok-line-in-Ok.ensures.ok) in
+    stopped old now c.from_residual-in_err-write_text-in-Ok.result (outcome_text x) c.from_residual-in_err-write_text-in-Ok.ensures.0
+    (subst (AppendsFront old now) text (front_of_first old now line (take c.in-Ok.written out) c.in_err-write_text-in-Ok.ensures))
+
+pub returns-in_ok-write_text-in-Ok : goal.returns-in_ok-write_text-in-Ok
+returns-in_ok-write_text-in-Ok g c =
+    let old = g.W.Write.contents c.args.output.now in
+    let now = g.W.Write.contents c.write_text.new.writer in
+    let new = g.W.Write.contents c.write_text-in-Ok.new.writer in
+    let out = c.sitting.new.out in
+    let line = c.as_bytes.result.now in
+    let x = sat_in c.args.input.now c.args.buffer.now in
+    let text = whole c.in-Ok.written out line x (ap (λ r. (r, out)) (sym c.in-Ok.is) ∙ c.sitting.ensures.outcome)
+    (c.as_bytes.ensures.value ∙ c.in_ok-line-in-Ok.ensures.ok) in
+    subst (Writes old new c.write_text-in-Ok.result) text
+    (writes_after old now new c.write_text-in-Ok.result line (take c.in-Ok.written out) c.in_ok-write_text-in-Ok.ensures c.write_text-in-Ok.ensures)

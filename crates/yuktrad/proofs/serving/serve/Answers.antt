@@ -1,15 +1,20 @@
-use Rattle.std.proofs.Common.{◌≡◌, Ok, replicate, take, refl, sym, ap, ◌∙◌}
+use Rattle.std.proofs.Common.{◌≡◌, ℕ, Ok, Result, replicate, take, sym, ap, subst, ◌∙◌, arith}
+use Rattle.std.proofs.lemmas.List.{length-replicate}
 use Rattle.intake.proofs.Serving.{served}
+use Rattle.session.specs.declared.refusals.Refusal.{Refusal}
 use Rattle.sitting.specs.Outputs.{sat_in}
+use Rattle.sitting.specs.Sits.{SittingSays, TooShort}
 use Rattle.yuktrad.specs.Printing.{printed, written}
 use Rattle.yuktrad.proofs.Most.{printed_alike}
-use Rattle.yuktrad.proofs.Sat.{never_refused}
 use Rattle.yuktrad.proofs.serving.serve.Goals as goal
 
+-- a buffer of 625 bytes is not refused
 pub unreachable-requires : goal.unreachable-requires
 unreachable-requires g c =
-    never_refused c.as_slice.result.now (replicate 625 0) c.sitting.new.out c.in-Err.field-0 refl
-    (ap (λ r. (r, c.sitting.new.out)) (sym c.in-Err.is) ∙ c.sitting.ensures.outcome)
+    let out = replicate 625 0 in
+    let refused : TooShort c.in-Err.field-0 out c.sitting.new.out =
+    subst (λ (r : Result ℕ Refusal). SittingSays c.as_slice.result.now out r c.sitting.new.out) c.in-Err.is c.sitting.ensures.words in
+    absurd (omega (arith, refused.short, length-replicate {A = ℕ} 625 0))
 
 pub returns-clause-serves : goal.returns-clause-serves
 returns-clause-serves g c =
