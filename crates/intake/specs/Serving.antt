@@ -16,7 +16,8 @@ Writes old new result text = MatchResult result (λ _. Appends old new text) (λ
 
 -- Whatever bytes the reader says it has left, on Ok the writer has grown by a text that belongs to them, and by nothing else. At an
 -- error it holds what it held, or has grown by a front of such a text.
-abbrev pub Serves : {E : Type 0} → (List ℕ → List ℕ → Type 0) → Option (List ℕ) → Option (List ℕ) → Option (List ℕ) → Result (Unit {0}) E → Type 0
+abbrev pub Serves : {E : Type 0} → (List ℕ → List ℕ → Type 0) → Option (List ℕ) → Option (List ℕ) → Option (List ℕ) → Result (Unit {0}) E
+    → Type 0
 Serves Belongs left old new result = MatchResult result
     (λ _. IfSome left (λ given. (text : List ℕ) × Belongs given text × Appends old new text))
     (λ _. Keeps old new ⊎ IfSome left (λ given. (text : List ℕ) × Belongs given text × AppendsFront old new text))

@@ -16,7 +16,8 @@ const MOST: usize = 3226;
 // Lists the table that a reader gives, or says why it is refused. What is written belongs to all that the reader had left,
 // and no more of it is taken than is looked at.
 pub fn serve<R: Read, W: Write>(heap: Global, input: &mut R, output: &mut W) -> io::Result<()>
-    ensures serves { Serves (λ given text. text ≡ answered (read given)) (R.remaining input.old) (W.contents output.old) (W.contents output.new) result }
+    ensures serves { Serves (λ given text. text ≡ answered (read given))
+        (R.remaining input.old) (W.contents output.old) (W.contents output.new) result }
     ensures left { TakenAtMost 3226 (R.remaining input.old) (R.remaining input.new) }
 {
     let given = read_most(heap, input, MOST)?;

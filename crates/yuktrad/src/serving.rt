@@ -18,7 +18,8 @@ const ROOM: usize = 625;
 
 // Does a sitting on what a reader gives, and writes what it writes. No more is taken than is looked at.
 pub fn serve<R: Read, W: Write>(heap: Global, input: &mut R, output: &mut W) -> io::Result<()>
-    ensures serves { Serves (λ given text. text ≡ printed given) (R.remaining input.old) (W.contents output.old) (W.contents output.new) result }
+    ensures serves { Serves (λ given text. text ≡ printed given)
+        (R.remaining input.old) (W.contents output.old) (W.contents output.new) result }
     ensures left { TakenAtMost 4001 (R.remaining input.old) (R.remaining input.new) }
 {
     let given = read_most(heap, input, MOST)?;

@@ -10,5 +10,5 @@ returns-clause-serves g c =
     let answered : Answered c.in_ok-given.given.items c.as_bytes.result.now =
     subst (λ (text : List ℕ). Answered c.in_ok-given.given.items text) (sym c.as_bytes.ensures.value)
     (subst (λ (xs : List ℕ). Answered xs (string_bytes c.in_ok-told.told)) input c.in_ok-told.ensures) in
-    served (take 3856) Answered answered_all _ _ _ c.write_text.result c.in_ok-given.given.items c.as_bytes.result.now c.in_ok-given.ensures.all answered
-    c.write_text.ensures
+    served (take 3856) Answered answered_all _ _ _ c.write_text.result c.in_ok-given.given.items c.as_bytes.result.now c.in_ok-given.ensures.all
+    answered c.write_text.ensures

@@ -23,5 +23,5 @@ returns-clause-serves g c =
     let sat : (Ok n, out) ≡ sat_in c.in_ok-given.given.items (replicate 625 0) =
     ap (λ r. (r, out)) (sym c.in-Ok.is) ∙ c.sitting.ensures.outcome
     ∙ ap (λ xs. sat_in xs (replicate 625 0)) c.as_slice.ensures.value in
-    served (take 4001) (λ given t. t ≡ printed given) (λ given t h. h ∙ printed_alike given) _ _ _ c.write_text.result c.in_ok-given.given.items (take n out)
-    c.in_ok-given.ensures.all (ap written sat) c.write_text.ensures
+    served (take 4001) (λ given t. t ≡ printed given) (λ given t h. h ∙ printed_alike given) _ _ _ c.write_text.result c.in_ok-given.given.items
+    (take n out) c.in_ok-given.ensures.all (ap written sat) c.write_text.ensures
