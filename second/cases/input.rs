@@ -108,4 +108,9 @@ impl Batch {
         self.bytes.extend(format!("{} {buffer}\n", input.0.len()).bytes());
         self.bytes.extend(&input.0);
     }
+
+    /// Ends the batch with a case whose input is shorter than its line says; no case can follow it.
+    pub fn end_short(&mut self) {
+        self.bytes.extend(b"29 625\n   1   8");
+    }
 }

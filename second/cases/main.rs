@@ -4,7 +4,7 @@
 //!
 //! A case is a line of two decimal numbers, the bytes of the input and the bytes of the buffer, and then the input
 //! itself. Every case is a small search, so that the whole batch can be answered in seconds even by a program that
-//! plays each run from its start.
+//! plays each run from its start. The last case cannot be read.
 
 mod damaged;
 mod drawn;
@@ -29,5 +29,6 @@ fn main() -> io::Result<()> {
     add_known(&mut batch);
     add_drawn(&mut batch);
     add_damaged(&mut batch);
+    batch.end_short();
     io::stdout().write_all(&batch.bytes)
 }

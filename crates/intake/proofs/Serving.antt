@@ -4,7 +4,7 @@ use Rattle.std.proofs.Common.{◌≡◌, ◌+◌, ℕ, List, ◌++◌, length, m
 use Rattle.std.proofs.lemmas.Grind.{common_steps}
 use Rattle.std.proofs.Math.Seq.{take-append-add}
 use Rattle.std.specs.Io.KnownBytes.{Appends}
-use Rattle.std.proofs.KnownBytes.{Appends-nil, Appends-trans}
+use Rattle.std.proofs.KnownBytes.{Appends-trans}
 use Rattle.intake.specs.Serving.{AppendsFront, Serves, Writes}
 
 pub served : {E : Type 0} (front : List ℕ → List ℕ) (Belongs : List ℕ → List ℕ → Type 0)
@@ -29,9 +29,6 @@ pub front_after : (old mid new : Option (List ℕ)) (first rest : List ℕ) → 
     → AppendsFront old new (first ++ rest)
 front_after old mid new first rest h (n, more) =
     (length first + n, subst (Appends old new) (sym (take-append-add first rest n)) (Appends-trans old mid new first (take n rest) h more))
-
-pub first_is_front : (old new : Option (List ℕ)) (first rest : List ℕ) → Appends old new first → AppendsFront old new (first ++ rest)
-first_is_front old new first rest h = front_after old new new first rest h (0, Appends-nil new)
 
 pub writes_after : {E : Type 0} (old mid new : Option (List ℕ)) (r : Result (Unit {0}) E) (first rest : List ℕ) → Appends old mid first
     → Writes mid new r rest → Writes old new r (first ++ rest)

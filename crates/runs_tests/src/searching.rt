@@ -1,10 +1,10 @@
 // The search, along lists of runs that were written by hand.
 
-use super::tables::{SMALL, STORE_BUFFERING, asked, table_of};
+use super::tables::{SMALL, asked, table_of};
 use memory::{Fences, Memory, ReleaseAcquire, Sequential, Shape};
 use notice::Notice;
 use program::Table;
-use runs::{Cursor, Move, Question, Unasked, Verdict, Worked, read_question};
+use runs::{Cursor, Question, Unasked, Verdict, Worked, read_question};
 use std::process::Abort;
 use std::test::Fail;
 

@@ -97,7 +97,7 @@ module _ (t : Program) (q : Question) (good : proper t ≡ true) (asking : Askin
       let tells = tells_by memory t q E l.units l.verdict (front l.left) refl refl (λ _. refl) in
       record { settled = by_stage l.verdict (front l.left) tells.settled; low = run_low }
 
--- where a session is led by any calls that was new
+-- of a new session, after any series of calls
 pub freed : (c : Content) → After memory [] c → Freed c
 freed c new h = subst (λ (x : Content). IfAsked x x.inquiry) (sym (ap (λ (x : Content). content_after memory x h) new ∙ after_value memory blank h)) (go (booked h) (sound h))
   where

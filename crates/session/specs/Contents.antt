@@ -18,7 +18,7 @@ use Rattle.session.specs.declared.sessions.Session.{Session}
 use Rattle.session.specs.Recited.{recited}
 
 -- A question that was put, what is known of it, and the run where its search stands: the next one to look at, or the one that
--- was found.
+-- was found; after the last run it stands at the run of no moves.
 pub record Inquiry : Type 0 where
   pub question : Question
   pub verdict : Verdict

@@ -30,11 +30,11 @@ pub record Timeless (c : Content) (q : Question) : Type 0 where
   pub low : (r : List Move) → Within (system memory c.table) (opening memory (over c.table) q.shape) q.steps q.switches r
       → Low q.steps (end_of (system memory c.table) (opening memory (over c.table) q.shape) r).config.store
 
--- so it is with its question, if it has one
+-- of its question, if it has one
 abbrev pub IfAsked : Content → Option Inquiry → Type 0
 IfAsked c None = Unit {0}
 IfAsked c (Some i) = Timeless c i.question
 
--- and with whatever any series of calls leads a session to that now holds c
+-- of a session that holds c now, after any series of calls
 abbrev pub Freed : Content → Type 0
 Freed c = (h : List Call) → IfAsked (content_after memory c h) (content_after memory c h).inquiry

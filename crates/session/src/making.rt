@@ -1,6 +1,6 @@
 // Making a session.
 
-ghost use Rattle.std.specs.Prelude.{◌≡◌, []};
+ghost use Rattle.std.specs.Prelude.{[]};
 ghost use Rattle.ceiling.specs.Ceiling.{memory as weak};
 ghost use Rattle.memory.specs.Fences.{fenced};
 ghost use Rattle.memory.specs.Sequential as sequential;

@@ -38,7 +38,7 @@ cut_joins e s p h =
     let back : drop i s ≡ e ∷ drop (i + 1) s = drop-cons s i 0 low ∙ ap₂ (λ (b j : ℕ). b ∷ drop j s) at more in
     subst (λ (r : List ℕ × List ℕ). s ≡ r.0 ++ (e ∷ r.1)) q.1 (sym (take-append-drop i s) ∙ ap (λ (l : List ℕ). take i s ++ l) back)
 
--- digits before a mark that is none are cut off there
+-- digits before a mark that is no digit are cut off there
 step_to : (b : Bool) (i n : ℕ) → b ≡ false → i ≡ n → cond (not b) (1 + i) 0 ≡ suc n
 step_to true i n other e = absurd (both_ways true other refl)
 step_to false i n other e = omega arith

@@ -27,7 +27,7 @@ fn answer_all<W: Write>(heap: Global, batch: &[u8], output: &mut W) -> io::Resul
 
 // Does one sitting after another from the batch that a reader gives.
 pub fn serve<R: Read, W: Write>(heap: Global, input: &mut R, output: &mut W) -> io::Result<()>
-    ensures bytes { Serves (λ b text. text ≡ batch_text b) (R.remaining input.old) (W.contents output.old) (W.contents output.new) result }
+    ensures serves { Serves (λ b text. text ≡ batch_text b) (R.remaining input.old) (W.contents output.old) (W.contents output.new) result }
     ensures words { Serves Answers (R.remaining input.old) (W.contents output.old) (W.contents output.new) result }
 {
     let batch = read_all(heap, input)?;

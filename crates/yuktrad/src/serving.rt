@@ -16,7 +16,7 @@ const MOST: usize = 4001;
 // As many bytes as a sitting writes at most.
 const ROOM: usize = 625;
 
-// Does a sitting on what a reader gives, and writes what it writes. No more is taken than is looked at.
+// Does a sitting on what a reader gives, and passes on what that writes. No more is taken than is looked at.
 pub fn serve<R: Read, W: Write>(heap: Global, input: &mut R, output: &mut W) -> io::Result<()>
     ensures serves { Serves (λ given text. text ≡ printed given)
         (R.remaining input.old) (W.contents output.old) (W.contents output.new) result }
