@@ -129,7 +129,7 @@ views_turn vs p v h = fun_ext (λ q. at q)
         (λ n. ap view_of (get_or-set_other vs p q v (record { times = [] }) n) ∙ sym (cond-false (eqb q p) (view_of v) (views_of vs q) (ne_eqb q p n)))
         (cases_eq q p)
 
-views_start : (v : Times) → view_of v ≡ nought → views_of (replicate 5 v) ≡ (λ p. nought)
+pub views_start : (v : Times) → view_of v ≡ nought → views_of (replicate 5 v) ≡ (λ p. nought)
 views_start v e = fun_ext (λ p. ⊎_elim
     (λ h. ap view_of (get_or-replicate 5 p v (record { times = [] }) h) ∙ e)
     (λ h. ap view_of (get_or_past (replicate 5 v) p (record { times = [] }) h))

@@ -9,7 +9,7 @@ front xs (Err e) = Err e
 
 module _ {A E : Type 0} (xs : List A) where
   -- one element more
-  front_push : (x : A) (rest : Result (List A) E) → front xs (cons_to (Ok x) rest) ≡ front (xs ++ (x ∷ [])) rest
+  pub front_push : (x : A) (rest : Result (List A) E) → front xs (cons_to (Ok x) rest) ≡ front (xs ++ (x ∷ [])) rest
   front_push x (Ok ys) = ap Ok (sym (append_assoc xs (x ∷ []) ys))
   front_push x (Err e) = refl
 

@@ -35,16 +35,17 @@ impl Table {
         }
     }
 
-    // Holds what was read, in place of what was there.
-    fn hold(&mut self, parsed: Parsed)
-        ensures { program self.new ≡ record { counts = parsed.frame.counts; rows = parsed.rows.items } }
+    // Holds what was read, in place of what was there. Only the rows that there are get copied, and not the room for the
+    // most.
+    pub(crate) fn hold(&mut self, parsed: Parsed)
+        ensures { program self.new ≡ record { counts = parsed.entry.frame.counts; rows = parsed.entry.rows.now.items } }
     {
         let starts = running_sums(parsed.frame.labels);
-        *self = Table {
-            counts: parsed.frame.counts,
-            starts,
-            rows: parsed.rows,
-        };
+        self.rows.clear();
+        // Both vectors have room for the same number of rows, so they fit.
+        let _ = self.rows.try_extend_from_slice(parsed.rows.as_slice());
+        self.counts = parsed.frame.counts;
+        self.starts = starts;
     }
 
     // Reads a table from its text; a refusal leaves the table as it was.
@@ -52,8 +53,6 @@ impl Table {
         ensures value { (result, program self.new) ≡ taken_in (program self.old) (read text.now) }
         ensures words { SaysOf text.now result (program self.new) }
     {
-        let parsed = parse(text)?;
-        self.hold(parsed);
-        Ok(())
+        parse(text, self)
     }
 }

@@ -1,12 +1,14 @@
-ghost use Rattle.std.specs.Prelude.{◌≡◌, ◌≤◌, true, [], length, drop, Ok, IfOk, slice_index, slice_index_or};
+ghost use Rattle.std.specs.Prelude.{◌≡◌, ◌≤◌, true, [], length, drop, Ok, OnOk, slice_index, slice_index_or};
 ghost use Rattle.arrayvec.specs.ArrayVec.{array_vec_len};
 ghost use Rattle.program.specs.Program.{follows, labels_of, proper, Counted};
 ghost use Rattle.program.specs.Reading.{header_read, row_read, rows_read, ends_read, named, then_do, read};
+ghost use Rattle.program.specs.Tables.{program, taken_in};
 
 use super::decoding::Scope;
 use super::lines::read_lines;
 use super::refusals::Refusal;
 use super::rows::{Counts, MOST_LABELS, MOST_LINES, MOST_ROWS, Row};
+use super::tables::Table;
 use arrayvec::ArrayVec;
 
 // The numbers of each line of a text: those of the header, then those of each line below it.
@@ -112,13 +114,13 @@ impl Frame {
         })
     }
 
-    // The rows of the lines below a header, each judged below the one before.
-    fn rows(self, lines: &Lines) -> Result<ArrayVec<Row, MOST_ROWS>, Refusal>
-        requires { Counted self.labels (named (drop 1 lines.now.all.now.items)) }
-        ensures value { then_do result (λ rows. Ok rows.items) ≡ rows_read self.counts (named (drop 1 lines.now.all.now.items)) 0 0 2 (drop 1 lines.now.all.now.items) }
-        ensures labels { IfOk result (λ rows. Counted self.labels (labels_of rows.items)) }
+    // Puts the rows of the lines below a header into an empty vector, each judged below the one before.
+    fn rows(self, lines: &Lines, rows: &mut ArrayVec<Row, MOST_ROWS>) -> Result<(), Refusal>
+        requires counted { Counted self.labels (named (drop 1 lines.now.all.now.items)) }
+        requires empty { rows.old.items ≡ [] }
+        ensures value { then_do result (λ _. Ok rows.new.items) ≡ rows_read self.counts (named (drop 1 lines.now.all.now.items)) 0 0 2 (drop 1 lines.now.all.now.items) }
+        ensures labels { OnOk result (Counted self.labels (labels_of rows.new.items)) }
     {
-        let mut rows = ArrayVec::new();
         // Process 0 stands before the first row, so process 1 follows it by the rule of any next process; an
         // Option would be a case of its own.
         let mut above = Row::default();
@@ -126,7 +128,7 @@ impl Frame {
             above = self.row(above, *line, (i + 2) as u8)?;
             rows.push(above);
         }
-        Ok(rows)
+        Ok(())
     }
 }
 
@@ -149,18 +151,20 @@ fn check_ends(processes: u8, rows: &ArrayVec<Row, MOST_ROWS>) -> Result<(), Refu
     }
 }
 
-// What was read: the rows, and what they were judged by.
-#[derive(Drop)]
-pub(crate) struct Parsed {
+// What was read: the rows, which are lent, and what they were judged by.
+#[derive(Clone, Copy)]
+pub(crate) struct Parsed<'a> {
     pub(crate) frame: Frame,
-    pub(crate) rows: ArrayVec<Row, MOST_ROWS>,
-    ghost counted: { Counted frame.labels (labels_of rows.items) },
-    ghost right: { proper (record { counts = frame.counts; rows = rows.items }) ≡ true },
+    pub(crate) rows: &'a ArrayVec<Row, MOST_ROWS>,
+    ghost counted: { Counted frame.labels (labels_of rows.now.items) },
+    ghost right: { proper (record { counts = frame.counts; rows = rows.now.items }) ≡ true },
 }
 
-// Reads a table's text.
-pub(crate) fn parse(text: &[u8]) -> Result<Parsed, Refusal>
-    ensures { then_do result (λ t. Ok (record { counts = t.frame.counts; rows = t.rows.items })) ≡ read text.now }
+// Reads a text into a table, which a refusal leaves as it was. The rows are lent to the table, as the lines are to what
+// judges them: handed out by value, they are copied at each step with the room for the most, and a table of two lines takes
+// twice as long to read.
+pub(crate) fn parse(text: &[u8], table: &mut Table) -> Result<(), Refusal>
+    ensures { (result, program table.new) ≡ taken_in (program table.old) (read text.now) }
 {
     let mut all = ArrayVec::new();
     read_lines(text, 2, &mut all)?;
@@ -169,7 +173,9 @@ pub(crate) fn parse(text: &[u8]) -> Result<Parsed, Refusal>
         counts: header(lines.header(), lines.below().len())?,
         labels: lines.tally(),
     };
-    let rows = frame.rows(&lines)?;
+    let mut rows = ArrayVec::new();
+    frame.rows(&lines, &mut rows)?;
     check_ends(frame.counts.processes, &rows)?;
-    Ok(Parsed { frame, rows })
+    table.hold(Parsed { frame, rows: &rows });
+    Ok(())
 }

@@ -14,6 +14,10 @@ pub(crate) const MOST_LABELS: u16 = 32;
 // count from 1.
 #[derive(Clone, Copy, Debug, Default, PartialEq, Eq)]
 pub enum Instruction {
+    // No step follows. It stands first, so that blank rows are zeros alone: room for rows is then made at once and not row by
+    // row.
+    #[default]
+    Term,
     // The register gets the variable.
     Read { register: u8, variable: u8 },
     // The variable gets the register.
@@ -30,9 +34,6 @@ pub enum Instruction {
     Assume { left: u8, right: u8 },
     // A fence.
     Fence,
-    // No step follows.
-    #[default]
-    Term,
 }
 
 // One instruction of a table, with the process and the label that it belongs to.

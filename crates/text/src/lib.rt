@@ -100,7 +100,9 @@ fn fit(numbers: &[u16]) -> bool
     numbers.iter().all(|n| *n <= LARGEST)
 }
 
-// Writes the line of the numbers to the front of the buffer, and answers its length.
+// Writes the line of the numbers to the front of the buffer, and answers its length. It is put in place where it is called, so
+// that the compiler can use what it knows of the numbers there.
+#[inline(always)]
 pub fn write_line(numbers: &[u16], out: &mut [u8]) -> Result<usize, Unwritten>
     ensures { (result, out.new) ≡ written numbers.now out.old }
 {

@@ -15,7 +15,7 @@ returns-in_err-above-clause-value c =
     let below = drop 1 c.args.lines.now.all.now.items in
     let lines = c.below-line-items.ensures.value in
     let stop = rows_stop self.counts (λ q. get_or self.labels q 0) above.process above.label (c.loop-i.i + 2) c.below-line-items.result.now c.loop-i.i [] c.loop-i-test.true c.loop-i.rows.items c.in_err-above.field-0.0 c.in_err-above.ensures in
-    rw (p.1, p.2) (rw lines at (stop ∙ c.loop-i.invariant.read) ∙ judged_by self.counts self.labels below self.few c.requires)
+    rw (p.1, p.2) (rw lines at (stop ∙ c.loop-i.invariant.read) ∙ judged_by self.counts self.labels below self.few c.requires.counted)
 
 pub loop-i-preserved : goal.loop-i-preserved
 loop-i-preserved c =
@@ -38,5 +38,5 @@ returns c =
     sym (front_all rows)
     ∙ ap (λ (z : List (List ℕ)). front rows (rows_read self.counts (λ q. get_or self.labels q 0) above.process above.label (c.loop-i.i + 2) z)) (sym none)
     ∙ c.loop-i.invariant.read in
-    let value : Ok rows ≡ rows_read self.counts (named below) 0 0 2 below = rw lines at read ∙ judged_by self.counts self.labels below self.few c.requires in
-    record { value = value; labels = counted_rows self.counts self.labels below rows c.requires value }
+    let value : Ok rows ≡ rows_read self.counts (named below) 0 0 2 below = rw lines at read ∙ judged_by self.counts self.labels below self.few c.requires.counted in
+    record { value = value; labels = counted_rows self.counts self.labels below rows c.requires.counted value }
