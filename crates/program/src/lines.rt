@@ -1,7 +1,5 @@
 ghost use Rattle.std.specs.Prelude.{◌≡◌, ◌≤◌, min, [], length, Ok, IfOk, OnErr, OnOk};
-ghost use Rattle.std.specs.Option.{ok_or};
 ghost use Rattle.arrayvec.specs.ArrayVec.{array_vec_len};
-ghost use Rattle.text.specs.Lines.{line_numbers};
 ghost use Rattle.program.specs.declared.lines.Unread.TheVariants.{Length, Field};
 ghost use Rattle.program.specs.Reading.{count_or, lines, lines_or, then_do};
 
@@ -32,13 +30,6 @@ fn cut(text: &[u8], least: usize, most: usize) -> Result<&[[u8; LINE]], Unread>
     }
 }
 
-// The numbers of the line that has a number.
-fn numbers(line: &[u8], number: u8) -> Result<[u16; 6], Unread>
-    ensures { result ≡ ok_or (line_numbers 6 line.now) (Field number) }
-{
-    read_line::<6>(line).ok_or(Unread::Field { line: number })
-}
-
 // Puts the numbers of each line of a text into an empty vector.
 fn fill<const MOST: usize>(
     text: &[u8],
@@ -51,7 +42,16 @@ fn fill<const MOST: usize>(
 {
     let most = MOST.min(255);
     for (i, line) in cut(text, least, most)?.iter().enumerate() {
-        all.push(numbers(line, (i + 1) as u8)?);
+        // A `match`, and no `ok_or` with `?`: on the way through a result the numbers would be put together again from parts,
+        // since they share its bytes with the error's, which makes reading a long table a third slower.
+        match read_line::<6>(line) {
+            Some(numbers) => all.push(numbers),
+            None => {
+                return Err(Unread::Field {
+                    line: (i + 1) as u8,
+                });
+            }
+        }
     }
     Ok(())
 }
