@@ -43,7 +43,7 @@ fn fill<const MOST: usize>(
     let most = MOST.min(255);
     for (i, line) in cut(text, least, most)?.iter().enumerate() {
         // A `match`, and no `ok_or` with `?`: on the way through a result the numbers would be put together again from parts,
-        // since they share its bytes with the error's, which makes reading a long table a third slower.
+        // since they share its bytes with the error's, which made reading a long table up to a third slower.
         match read_line::<6>(line) {
             Some(numbers) => all.push(numbers),
             None => {
